@@ -1,0 +1,6 @@
+// The fields GF(p) for the listed primes: each operation is a few machine instructions, and none takes memory.
+#![tactic(auto)]
+
+pub mod prime;
+
+pub use prime::Prime;

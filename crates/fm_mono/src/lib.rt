@@ -1,0 +1,6 @@
+// Monomials and the three monomial orders.
+#![tactic(auto)]
+
+pub mod order;
+
+pub use order::Order;
