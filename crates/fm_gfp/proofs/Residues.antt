@@ -1,8 +1,8 @@
 -- Facts about the residues modulo the listed primes. All rest on one test of each residue, which is computed.
 -- For a new prime of the list add its line to `all_pass` and to `prime_above_one`, and nothing else.
-use Rattle.std.proofs.Common.{ℕ, suc, ◌+◌, ◌-◌, ◌*◌, ◌^◌, ◌%◌, ◌<◌, ◌≡◌, Bool, true, ◌&&◌, ◌||◌, nat_eq, refl, sym, ap, ◌∙◌, inl, inr, arith}
-use Rattle.std.proofs.Math.Nat.{mod-lt, mul-mod_right, zero-mod}
-use Rattle.std.proofs.lemmas.Nat.{mul-mod_first, mul-mod_second}
+use Rattle.std.proofs.Common.{ℕ, zero, suc, ◌+◌, ◌-◌, ◌*◌, ◌^◌, ◌%◌, ◌<◌, ◌≡◌, Bool, true, ◌&&◌, ◌||◌, nat_eq, refl, sym, ap, ◌∙◌, inl, inr, arith, subst, ◌⊎◌, mod-eq_of_lt}
+use Rattle.std.proofs.Math.Nat.{mod_self, mod-lt, mul-mod_right, zero-mod}
+use Rattle.std.proofs.lemmas.Nat.{pow-mod, mul-mod_first, mul-mod_second}
 use Rattle.std.proofs.lemmas.Bool.{agree_below, agree_below_at, and_parts, or_cases, eqb-true}
 use Rattle.fm_gfp.specs.Primes.{prime_value}
 use Rattle.fm_gfp.specs.Binomials.{choose}
@@ -57,6 +57,13 @@ inverse_exists p k positive below =
       )
     ]
 
+pub inverse_positive : (p : Prime) (k j : ℕ) → (k * j) % prime_value p ≡ 1 → 0 < j
+inverse_positive p k zero one =
+    let nothing : k * 0 ≡ 0 = omega arith in
+    let zero_is : (k * 0) % prime_value p ≡ 0 = ap (λ n. n % prime_value p) nothing ∙ zero-mod (prime_value p) in
+    absurd (omega arith)
+inverse_positive p k (suc j) one = omega arith
+
 -- a product is 0 modulo p only if a factor is
 pub cancel_factor : (p : Prime) (k c : ℕ) → 0 < k → k < prime_value p → (k * c) % prime_value p ≡ 0 → c % prime_value p ≡ 0
 cancel_factor p k c positive below product =
@@ -80,3 +87,23 @@ binomial_divisible p i j whole =
     choose_by_place i (suc j) ∙ ap (λ x. x * choose i (suc j)) whole in
     cancel_factor p (suc i) (choose (suc i) (suc j)) (omega arith) below
     (ap (λ x. x % prime_value p) by_place ∙ mul-mod_right (prime_value p) (choose i (suc j)))
+
+pub no_zero_divisors : (p : Prime) (a b : ℕ) → a < prime_value p → b < prime_value p → (a * b) % prime_value p ≡ 0 → (a ≡ 0) ⊎ (b ≡ 0)
+no_zero_divisors p zero b a_below b_below product = inl refl
+no_zero_divisors p (suc a) b a_below b_below product =
+    inr (sym (mod-eq_of_lt b_below) ∙ cancel_factor p (suc a) b (omega arith) a_below product)
+
+pub fermat_of_any : (p : Prime) (c : ℕ) → (c ^ prime_value p) % prime_value p ≡ c % prime_value p
+fermat_of_any p c = sym (pow-mod c (prime_value p) (prime_value p)) ∙ fermat p (c % prime_value p) (mod-lt c (prime_positive p))
+
+-- a listed number has no factors but 1 and itself
+pub value_is_prime : (p : Prime) (d e : ℕ) → d * e ≡ prime_value p → (d ≡ 1) ⊎ (e ≡ 1)
+value_is_prime p zero e whole = let positive = prime_positive p in let nothing : 0 * e ≡ 0 = omega arith in absurd (omega arith)
+value_is_prime p (suc zero) e whole = inl refl
+value_is_prime p (suc (suc d)) zero whole = let positive = prime_positive p in let nothing : suc (suc d) * 0 ≡ 0 = omega arith in absurd (omega arith)
+value_is_prime p (suc (suc d)) (suc zero) whole = inr refl
+value_is_prime p (suc (suc d)) (suc (suc e)) whole =
+    let left : suc (suc d) < prime_value p = subst (λ n. suc (suc d) < n) whole (omega arith) in
+    let right : suc (suc e) < prime_value p = subst (λ n. suc (suc e) < n) whole (omega arith) in
+    let multiple : (suc (suc d) * suc (suc e)) % prime_value p ≡ 0 = ap (λ n. n % prime_value p) whole ∙ mod_self (prime_value p) in
+    elim (no_zero_divisors p _ _ left right multiple) [ inl h ↦ absurd (omega arith) | inr h ↦ absurd (omega arith) ]
