@@ -87,3 +87,12 @@ pub get_or_map : (f : ℕ → ℕ) (a : List ℕ) (k : ℕ) → k < length a →
 get_or_map f [] k below = absurd (omega arith)
 get_or_map f (i ∷ a) zero below = refl
 get_or_map f (i ∷ a) (suc k) below = get_or_map f a k (omega arith)
+
+sum_reverse_aux : (a x : List ℕ) → sum (reverse_aux a x) ≡ sum a + sum x
+sum_reverse_aux [] x = omega arith
+sum_reverse_aux (i ∷ a) x =
+    let rest : sum (reverse_aux a (i ∷ x)) ≡ sum a + sum (i ∷ x) = sum_reverse_aux a (i ∷ x) in
+    omega (arith, sum_cons i a, sum_cons i x)
+
+pub sum_reverse : (a : List ℕ) → sum (reverse a) ≡ sum a
+sum_reverse a = let whole : sum (reverse a) ≡ sum a + sum [] = sum_reverse_aux a [] in omega arith
