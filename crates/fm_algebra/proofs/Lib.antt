@@ -1,3 +1,11 @@
 pub mod Algebra
 pub mod Sums
 pub mod Series
+pub mod Gf
+pub mod Poly
+pub mod PolyRing
+pub mod TuplePlaces
+pub mod Spread
+pub mod Slices
+pub mod Twist
+pub mod PolySlices
