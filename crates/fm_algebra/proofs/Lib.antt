@@ -9,3 +9,7 @@ pub mod Spread
 pub mod Slices
 pub mod Twist
 pub mod PolySlices
+pub mod Monomial
+pub mod Binomial
+pub mod Frobenius
+pub mod Concrete
