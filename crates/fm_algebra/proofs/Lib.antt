@@ -13,3 +13,6 @@ pub mod Monomial
 pub mod Binomial
 pub mod Frobenius
 pub mod Concrete
+pub mod Domain
+pub mod Lex
+pub mod Terms
