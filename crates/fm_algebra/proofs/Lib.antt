@@ -1,0 +1,4 @@
+pub mod Algebra
+pub mod FiniteSums
+pub mod FamilyLaws
+pub mod Tables

@@ -1,2 +1,6 @@
 pub mod Ring
 pub mod Matrices
+pub mod FiniteSums
+pub mod Matrix
+pub mod Families
+pub mod Image
