@@ -2,3 +2,5 @@ pub mod Algebra
 pub mod FiniteSums
 pub mod FamilyLaws
 pub mod Tables
+pub mod Images
+pub mod Flatness
