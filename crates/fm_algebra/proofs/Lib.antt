@@ -1,4 +1,6 @@
 pub mod Algebra
+pub mod Sums
+pub mod Series
 pub mod FiniteSums
 pub mod FamilyLaws
 pub mod Tables
