@@ -6,3 +6,5 @@ pub mod FamilyLaws
 pub mod Tables
 pub mod Images
 pub mod Flatness
+pub mod ListImages
+pub mod MatrixLaws
