@@ -1,5 +1,6 @@
 -- Laws of matrices of lists, from those of families
-use Rattle.std.proofs.Common.{ℕ, zero, ◌+◌, ◌<◌, ◌≡◌, ◌∙◌, refl, sym, ap, ap₂, subst, List, length, get_or}
+use Rattle.std.proofs.Common.{ℕ, zero, ◌+◌, ◌<◌, ◌≡◌, ◌∙◌, refl, sym, ap, ap₂, subst, List, [], length, get_or}
+use Rattle.std.proofs.lemmas.List.{length-map}
 use Rattle.fm_algebra.specs.Ring.{Ring, IsRing, IsFrobenius}
 use Rattle.fm_algebra.specs.FiniteSums.{finite_sum}
 use Rattle.fm_algebra.specs.Matrix.{Matrix, cols, entry, component, IsShaped, column_matrix, product, apply, sum, negative, zero_matrix, scalar_matrix, unit_matrix, transpose, entrywise, joined, stacked, picked, InListImage, InListKernel}
@@ -8,7 +9,7 @@ use Rattle.fm_algebra.specs.Image.{InImage, InKernel}
 use Rattle.fm_algebra.proofs.FamilyLaws.{assoc, unit_left, unit_right, dist_left, dist_right, flip_mul, join_mul, scalar_mul, sum_comm, sum_assoc, sum_nil, sum_neg, sum_at, each_mul, each_add, each_unit, each_none, each_each, each_beside, each_stack, flip_beside, families_laws}
 use Rattle.fm_algebra.proofs.Images.{image_trans, image_self, mul_nil}
 use Rattle.fm_algebra.proofs.Tables.{read_injective, read_product, product_shaped, read_sum, sum_shaped, read_negative, negative_shaped, read_zero, zero_shaped, read_scalar, scalar_shaped, read_unit, unit_shaped, read_transpose, transpose_shaped, read_entrywise, entrywise_shaped, read_joined, joined_shaped, read_stacked, stacked_shaped, read_column, column_shaped, entry_picked, length-apply, vector_apply, vector_injective, vector_zero}
-use Rattle.fm_algebra.proofs.ListImages.{list_image, list_kernel}
+use Rattle.fm_algebra.proofs.ListImages.{list_image, list_kernel, length_image}
 
 module _ {R : Ring} (L : IsRing R) where
   -- (A * B) * C = A * (B * C)
@@ -257,3 +258,13 @@ module _ {R : Ring} (L : IsRing R) where
     unfolding mul
     read_picked m n A js inside =
         λ t i a j b. (sum_at L n (get_or js j zero) (λ s h. entry R A i s) (inside j b) ∙ sym (entry_picked R A js i j b)) t
+
+    -- the columns that are picked from A span no more than A does
+    pub image_of_picked : (m n : ℕ) (A : Matrix R) (js : List ℕ) (v : List R.Carrier) → IsShaped R m n A → ((j : ℕ) → j < length js → get_or js j zero < n)
+        → InListImage R (picked R A js) v → InListImage R A v
+    unfolding picked
+    image_of_picked m n A js v a inside h =
+        let l : length v ≡ m = length_image R twist (picked R A js) v h ∙ a.0 in
+        let p : InImage (families R twist) (read R m (length js) (picked R A js)) (vector R m v) = (list_image R twist m (length js) (picked R A js) v a.0 (length-map js (λ j. get_or A.columns j [])) l).0 h in
+        let q : InImage (families R twist) (read R m n A) (read R m (length js) (picked R A js)) = ((λ s h j b. delta R s (get_or js j zero)), read_picked m n A js inside) in
+        (list_image R twist m n A v a.0 a.1 l).1 (image_trans (families_laws L F) (read R m n A) (read R m (length js) (picked R A js)) (vector R m v) q p)
