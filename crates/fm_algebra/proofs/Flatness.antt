@@ -1,10 +1,10 @@
 -- Flatness of Frobenius from slices
 use Rattle.std.proofs.Common.{ℕ, zero, suc, ◌<◌, ◌≡◌, ◌∙◌, sym, ap, arith}
-use Rattle.fm_algebra.specs.Ring.{Ring, IsRing, IsFrobenius, IsSliced}
+use Rattle.fm_algebra.specs.Ring.{Ring, IsRing, IsSliced}
 use Rattle.fm_algebra.specs.FiniteSums.{below, last, finite_sum}
 use Rattle.fm_algebra.specs.Families.{only, Mat, delta, mul, each, families}
 use Rattle.fm_algebra.specs.Image.{InImage, Flat}
-use Rattle.fm_algebra.proofs.Algebra.{add_zero, add_cancel, mul_one}
+use Rattle.fm_algebra.proofs.Algebra.{add_zero, add_cancel}
 use Rattle.fm_algebra.proofs.FiniteSums.{index, sum_ext}
 use Rattle.fm_algebra.proofs.FamilyLaws.{sum_at}
 

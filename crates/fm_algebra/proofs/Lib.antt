@@ -20,3 +20,6 @@ pub mod Monomial
 pub mod Binomial
 pub mod Frobenius
 pub mod Concrete
+pub mod DigitsListed
+pub mod PolynomialMatrices
+pub mod FamilyPowers

@@ -1,9 +1,9 @@
 -- Images, kernels and flatness of matrices of lists
-use Rattle.std.proofs.Common.{ℕ, zero, ◌<◌, ◌≡◌, ◌∙◌, ◌↔◌, refl, sym, ap, subst, List, length, map, replicate}
+use Rattle.std.proofs.Common.{ℕ, ◌≡◌, ◌∙◌, ◌↔◌, refl, sym, ap, subst, List, length, map, replicate}
 use Rattle.std.proofs.lemmas.List.{length-map, length-replicate}
 use Rattle.fm_algebra.specs.Ring.{Ring, IsRing, IsFrobenius, IsSliced}
 use Rattle.fm_algebra.specs.Matrix.{Matrix, cols, IsShaped, entry, apply, product, entrywise, InListImage, InListKernel, InListPreimage}
-use Rattle.fm_algebra.specs.Families.{Mat, mul, nil, each, read, vector, families}
+use Rattle.fm_algebra.specs.Families.{Mat, mul, each, read, vector, families}
 use Rattle.fm_algebra.specs.Image.{InImage, InKernel, Generates, GeneratesKernel}
 use Rattle.fm_algebra.proofs.FamilyLaws.{families_laws, twist_zero}
 use Rattle.fm_algebra.proofs.Tables.{read_injective, read_product, product_shaped, write, write_shaped, read_write, rows_table, cols_table, read_entrywise, length-apply, vector_apply, vector_injective, vector_zero, vector_map, list_of, length-list_of, vector_list_of}

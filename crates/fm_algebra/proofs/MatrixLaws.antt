@@ -1,14 +1,13 @@
 -- Laws of matrices of lists, from those of families
-use Rattle.std.proofs.Common.{ℕ, zero, ◌+◌, ◌<◌, ◌≡◌, ◌∙◌, refl, sym, ap, ap₂, subst, List, [], length, get_or}
+use Rattle.std.proofs.Common.{ℕ, zero, ◌+◌, ◌<◌, ◌≡◌, ◌∙◌, sym, ap, ap₂, List, [], length, get_or}
 use Rattle.std.proofs.lemmas.List.{length-map}
 use Rattle.fm_algebra.specs.Ring.{Ring, IsRing, IsFrobenius}
-use Rattle.fm_algebra.specs.FiniteSums.{finite_sum}
-use Rattle.fm_algebra.specs.Matrix.{Matrix, cols, entry, component, IsShaped, column_matrix, product, apply, sum, negative, zero_matrix, scalar_matrix, unit_matrix, transpose, entrywise, joined, stacked, picked, InListImage, InListKernel}
-use Rattle.fm_algebra.specs.Families.{Mat, delta, mul, add, neg, nil, unit, flip, each, scalar, beside, stack, read, vector, element, families}
-use Rattle.fm_algebra.specs.Image.{InImage, InKernel}
+use Rattle.fm_algebra.specs.Matrix.{Matrix, entry, IsShaped, column_matrix, product, apply, sum, negative, zero_matrix, scalar_matrix, unit_matrix, transpose, entrywise, joined, stacked, picked, InListImage, InListKernel}
+use Rattle.fm_algebra.specs.Families.{delta, mul, add, flip, each, beside, stack, read, vector, element, families}
+use Rattle.fm_algebra.specs.Image.{InImage}
 use Rattle.fm_algebra.proofs.FamilyLaws.{assoc, unit_left, unit_right, dist_left, dist_right, flip_mul, join_mul, scalar_mul, sum_comm, sum_assoc, sum_nil, sum_neg, sum_at, each_mul, each_add, each_unit, each_none, each_each, each_beside, each_stack, flip_beside, families_laws}
-use Rattle.fm_algebra.proofs.Images.{image_trans, image_self, mul_nil}
-use Rattle.fm_algebra.proofs.Tables.{read_injective, read_product, product_shaped, read_sum, sum_shaped, read_negative, negative_shaped, read_zero, zero_shaped, read_scalar, scalar_shaped, read_unit, unit_shaped, read_transpose, transpose_shaped, read_entrywise, entrywise_shaped, read_joined, joined_shaped, read_stacked, stacked_shaped, read_column, column_shaped, entry_picked, length-apply, vector_apply, vector_injective, vector_zero}
+use Rattle.fm_algebra.proofs.Images.{image_trans, mul_nil}
+use Rattle.fm_algebra.proofs.Tables.{read_injective, read_product, product_shaped, read_sum, sum_shaped, read_negative, read_zero, zero_shaped, read_scalar, scalar_shaped, read_unit, unit_shaped, read_transpose, transpose_shaped, read_entrywise, entrywise_shaped, read_joined, joined_shaped, read_stacked, stacked_shaped, read_column, column_shaped, entry_picked, length-apply, vector_apply, vector_injective}
 use Rattle.fm_algebra.proofs.ListImages.{list_image, list_kernel, length_image}
 
 module _ {R : Ring} (L : IsRing R) where

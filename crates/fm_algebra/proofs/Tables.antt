@@ -3,13 +3,12 @@ use Rattle.std.proofs.Common.{ℕ, zero, suc, ◌+◌, ◌-◌, ◌<◌, ◌≤�
 use native.Mathlib.Bridge.{le_prop}
 use Rattle.std.proofs.Math.ListN.{get_or-map}
 use Rattle.std.proofs.lemmas.Bool.{cases_lt, lt-ltb, le-ltb}
-use Rattle.std.proofs.lemmas.List.{get_or-map as get_or_map, ext_get_or, get_or-replicate, length-replicate}
+use Rattle.std.proofs.lemmas.List.{get_or-map as get_or_map, ext_get_or, get_or-replicate}
 use Rattle.std.proofs.lemmas.List.FromFn.{length-map-range_with_len, get_or-map-range_with_len}
-use Rattle.fm_algebra.specs.Ring.{Ring, IsRing}
+use Rattle.fm_algebra.specs.Ring.{Ring}
 use Rattle.fm_algebra.specs.FiniteSums.{finite_sum}
 use Rattle.fm_algebra.specs.Matrix.{Matrix, cols, component, entry, listed, table, IsShaped, column_matrix, product, apply, sum, negative, zero_matrix, scalar_matrix, unit_matrix, transpose, entrywise, joined, stacked, picked}
-use Rattle.fm_algebra.specs.Families.{Mat, mul, add, neg, nil, unit, flip, each, scalar, either, beside, stack, rest, read, vector, element}
-use Rattle.fm_algebra.proofs.FiniteSums.{sum_cast}
+use Rattle.fm_algebra.specs.Families.{Mat, mul, add, neg, nil, unit, flip, each, scalar, either, beside, stack, read, vector, element}
 
 pub length-listed : {X : Type 0} (n : ℕ) (f : ℕ → X) → length (listed n f) ≡ n
 unfolding listed
@@ -31,8 +30,8 @@ module _ (R : Ring) where
     p,
     length-listed c (λ j. listed r (λ i. f i j)) ∙ q,
     λ j h. ap length (get_or-listed c j [] (λ j. listed r (λ i. f i j)) (subst (λ x. j < x) (sym q) h))
-    ∙ length-listed r (λ i. f i j)
-    ∙ p,
+        ∙ length-listed r (λ i. f i j)
+        ∙ p,
   )
 
   -- the numbers of rows and columns of a table

@@ -1,7 +1,7 @@
 -- Vectors and matrices over GF(p)[x1 .. xn], their images and kernels, in the words that contracts cite.
 use Rattle.std.specs.Prelude.{ℕ, ◌↔◌, List, map}
 use Rattle.fm_gfp.specs.declared.prime.Prime.{Prime}
-use Rattle.fm_algebra.specs.Matrix.{Matrix, cols, IsShaped, column_matrix, product, apply, sum, negative, zero_matrix, scalar_matrix, unit_matrix, transpose, entrywise, joined, stacked, picked, InListImage, InListKernel, InListPreimage}
+use Rattle.fm_algebra.specs.Matrix.{Matrix, IsShaped, column_matrix, product, apply, sum, negative, zero_matrix, scalar_matrix, unit_matrix, transpose, entrywise, joined, stacked, picked, InListImage, InListKernel, InListPreimage}
 use Rattle.fm_algebra.specs.Polynomials.{Polynomial, polynomials, frobenius_twist}
 
 -- a number of rows and a list of columns, each a list of polynomials; either number may be 0
