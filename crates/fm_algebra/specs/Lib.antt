@@ -10,3 +10,8 @@ pub mod Twist
 pub mod Heads
 pub mod Polynomials
 pub mod Matrices
+pub mod FiniteSums
+pub mod Matrix
+pub mod Families
+pub mod Image
+pub mod PolynomialMatrices
