@@ -1,2 +1,5 @@
 pub mod OrderLaws
 pub mod WellFounded
+pub mod Bounds
+pub mod Packing
+pub mod LastVariable
