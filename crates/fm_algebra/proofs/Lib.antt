@@ -16,3 +16,4 @@ pub mod Concrete
 pub mod Domain
 pub mod Lex
 pub mod Terms
+pub mod PolynomialWords
