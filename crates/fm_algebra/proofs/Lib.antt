@@ -17,3 +17,5 @@ pub mod Domain
 pub mod Lex
 pub mod Terms
 pub mod PolynomialWords
+pub mod TermWords
+pub mod TwistWords

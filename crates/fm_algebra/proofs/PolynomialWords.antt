@@ -36,10 +36,13 @@ module _ (p : Prime) (n : ℕ) where
 
   pub finitely_many : (f : Polynomial p n) → (ks : List (List ℕ)) × ((a : List ℕ) → ¬ (coefficient p n f a ≡ 0) → Among a ks)
   unfolding coefficient
-  finitely_many f = (support f, λ a w. elim (ℕ_discrete (length a) n) [
-    | yes l ↦ elim (support_covers f a l) [ inl z ↦ absurd (w (ap (λ c. c.number) z ∙ zero-mod (prime_value p))) | inr v ↦ v ]
-    | no v ↦ absurd (w (coefficient_other_length f a v))
-  ])
+  finitely_many f = (
+    support f,
+    λ a w. elim (ℕ_discrete (length a) n) [
+      | yes l ↦ elim (support_covers f a l) [ inl z ↦ absurd (w (ap (λ c. c.number) z ∙ zero-mod (prime_value p))) | inr v ↦ v ]
+      | no v ↦ absurd (w (coefficient_other_length f a v))
+    ],
+  )
 
   pub any_coefficients : (h : List ℕ → ℕ) (ks : List (List ℕ)) → ((a : List ℕ) → length a ≡ n → h a < prime_value p) → ((a : List ℕ) → length a ≡ n → ¬ (h a ≡ 0) → Among a ks)
       → (f : Polynomial p n) × ((a : List ℕ) → length a ≡ n → coefficient p n f a ≡ h a)
@@ -68,8 +71,8 @@ module _ (p : Prime) (n : ℕ) where
   unfolding coefficient polynomial_one
   coefficient_one_elsewhere a w = elim (ℕ_discrete (length a) n) [
     | yes l ↦ ap (λ c. c.number) (coeff_one (gf p) (gf_laws p) (gf_is_zero p) n a
-      ∙ restricted (gf p) (gf_is_zero p) n (unit (gf p)) a (ℕ_discrete (length a) n) l
-      ∙ unit_elsewhere (gf_laws p) n n a l w) ∙ zero-mod (prime_value p)
+        ∙ restricted (gf p) (gf_is_zero p) n (unit (gf p)) a (ℕ_discrete (length a) n) l
+        ∙ unit_elsewhere (gf_laws p) n n a l w) ∙ zero-mod (prime_value p)
     | no v ↦ coefficient_other_length (polynomials p n).one a v
   ]
 
@@ -104,7 +107,7 @@ module _ (p : Prime) (n : ℕ) where
   unfolding coefficient polynomial_term
   coefficient_term_elsewhere c a b w = elim (ℕ_discrete (length b) n) [
     | yes l ↦ ap (λ x. x.number) (coeff_monomial_at (gf p) (gf_laws p) (gf_is_zero p) n (residue (prime_value p) (prime_positive p) c) a b l
-      ∙ single_other (gf p) _ a b w) ∙ zero-mod (prime_value p)
+        ∙ single_other (gf p) _ a b w) ∙ zero-mod (prime_value p)
     | no v ↦ coefficient_other_length (polynomial_term p n c a) b v
   ]
 

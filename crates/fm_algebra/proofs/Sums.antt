@@ -94,6 +94,7 @@ module _ {A : Type 0} (add : A → A → A) (nil : A) (left : (a : A) → add ni
     where
       heads : {x y : ℕ} {u v : List ℕ} → x ∷ u ≡ y ∷ v → x ≡ y
       heads z = cc
+
       tails : {x y : ℕ} {u v : List ℕ} → x ∷ u ≡ y ∷ v → u ≡ v
       tails z = cc
 
