@@ -26,3 +26,6 @@ pub mod Tables
 pub mod Terms
 pub mod TuplePlaces
 pub mod Twist
+pub mod PolynomialWords
+pub mod TermWords
+pub mod TwistWords
