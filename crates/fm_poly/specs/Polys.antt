@@ -1,6 +1,5 @@
 -- The program's polynomials: lists of terms, what they mean, and which of them are kept.
 use Rattle.std.specs.Prelude.{ℕ, List, map}
-use Rattle.fm_gfp.specs.Primes.{prime_value}
 use Rattle.fm_mono.specs.Orders.{monomial_cmp}
 use Rattle.fm_algebra.specs.Polynomials.{Polynomial, polynomial_of, AreListedTerms}
 use Rattle.fm_algebra.specs.Heads.{IsFalling}

@@ -3,8 +3,10 @@
 
 pub mod poly;
 pub mod poly_error;
+pub(crate) mod printing;
 pub mod ring;
 pub mod term;
+pub mod text_laws;
 
 pub use poly::Poly;
 pub use poly_error::PolyError;
