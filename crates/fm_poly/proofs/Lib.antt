@@ -1,0 +1,4 @@
+pub mod OrderedTerms
+pub mod MergeSteps
+pub mod CollectSteps
+pub mod SeenValues

@@ -1,1 +1,2 @@
 pub mod Polys
+pub mod Steps

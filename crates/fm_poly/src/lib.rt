@@ -1,6 +1,8 @@
 // Polynomials over GF(p) as falling lists of terms.
 #![tactic(auto)]
 
+pub(crate) mod collecting;
+pub(crate) mod merging;
 pub mod poly;
 pub mod poly_error;
 pub mod ring;
