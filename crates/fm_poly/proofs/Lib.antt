@@ -2,3 +2,4 @@ pub mod OrderedTerms
 pub mod MergeSteps
 pub mod CollectSteps
 pub mod SeenValues
+pub mod ProductSteps

@@ -3,6 +3,7 @@
 
 pub(crate) mod collecting;
 pub(crate) mod merging;
+pub(crate) mod multiplying;
 pub mod poly;
 pub mod poly_error;
 pub mod ring;
