@@ -56,7 +56,7 @@ decimal_is_numeral = decimal_by_steps IsNumeralOf one more where
     };
   }
 
-number_of_some : (ds : Bytes) → 0 < length ds → number_of ds ≡ number_from 0 ds
+pub number_of_some : (ds : Bytes) → 0 < length ds → number_of ds ≡ number_from 0 ds
 unfolding number_of
 number_of_some [] h = absurd (omega arith)
 number_of_some (b ∷ bs) h = refl

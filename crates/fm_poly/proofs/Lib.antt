@@ -3,3 +3,10 @@ pub mod Decimals
 pub mod PrintedFactors
 pub mod PrintedPolys
 pub mod PrintingSteps
+pub mod OrderedTerms
+pub mod MergeSteps
+pub mod CollectSteps
+pub mod SeenValues
+pub mod ProductSteps
+pub mod PieceSteps
+pub mod SpellingSteps

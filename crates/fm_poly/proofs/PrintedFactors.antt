@@ -97,7 +97,7 @@ skipped : (m : Bytes) (ms ws : List Bytes) → NoPowers m ws → exponents_of (m
 skipped m ms [] n = refl
 skipped m ms (w ∷ ws) n = ap (λ o. exponent_before o (exponents_of ms ws) (exponents_of ms (w ∷ ws))) n.0
 
-same_refl : (m : Bytes) → same_bytes m m ≡ true
+pub same_refl : (m : Bytes) → same_bytes m m ≡ true
 same_refl [] = refl
 same_refl (b ∷ bs) = rw (eq-eqb b b refl) (same_refl bs)
 

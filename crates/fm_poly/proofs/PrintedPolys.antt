@@ -20,7 +20,7 @@ all_read read print (x ∷ xs) Good AllGood parts one h =
 terms_read : (names : List Bytes) (ts : Terms) → AreNames names → ArePrintable (length names) ts → all_of (map (term_of names) (map (term_text names) ts)) ≡ Some ts
 terms_read names ts h p = all_read (term_of names) (term_text names) ts (IsPrintableTerm (length names)) (ArePrintable (length names)) (λ x rest q. (q.0, q.1)) (λ t q. term_read names t h q) p
 
-terms_are_texts : (names : List Bytes) (ts : Terms) → AreNames names → ArePrintable (length names) ts → AreTexts 3 (map (term_text names) ts)
+pub terms_are_texts : (names : List Bytes) (ts : Terms) → AreNames names → ArePrintable (length names) ts → AreTexts 3 (map (term_text names) ts)
 terms_are_texts names [] h p = tt
 terms_are_texts names (t ∷ ts) h p = (term_is_text names t h p.0, terms_are_texts names ts h p.1)
 
@@ -42,7 +42,7 @@ terms_of_printed names t ts h p =
     ap (λ ps. all_of (map (term_of names) ps)) (pieces_join 3 43 (omega arith) (term_text names t) (map (term_text names) ts) (terms_are_texts names (t ∷ ts) h p))
     ∙ terms_read names (t ∷ ts) h p
 
-no_exponents : (names : List Bytes) → exponents_of names [] ≡ Some (replicate (length names) 0)
+pub no_exponents : (names : List Bytes) → exponents_of names [] ≡ Some (replicate (length names) 0)
 no_exponents [] = refl
 no_exponents (m ∷ ms) = ap (option_map (λ es. 0 ∷ es)) (no_exponents ms)
 

@@ -4,11 +4,13 @@ use Rattle.std.specs.Prelude.{Bool, true, false, if◌then◌else◌, nat_eq, de
 use Rattle.std.specs.List.{join_with_byte}
 use Rattle.std.proofs.lemmas.List.Sums.{sum_by-cons}
 use Rattle.std.proofs.lemmas.Bool.{cases_eq, eq-eqb, ne_eqb}
-use Rattle.fm_poly.specs.Texts.{Bytes, factor_text, factor_texts, with_coefficient, term_text, poly_text}
+use Rattle.fm_poly.specs.Texts.{Bytes, Terms, factor_text, factor_texts, with_coefficient, term_text, poly_text}
+use Rattle.fm_gfp.specs.declared.prime.Prime.{Prime}
+use Rattle.fm_algebra.specs.Polynomials.{AreListedTerms}
 use Rattle.fm_poly.specs.Polys.{pairs}
 use Rattle.fm_poly.specs.declared.term.Term.{Term}
 use Rattle.std.proofs.lemmas.List.{nil_from_length}
-use Rattle.fm_poly.specs.Printing.{Extends, joined, separator}
+use Rattle.fm_poly.specs.Printing.{Extends, HaveLength, joined, separator}
 
 pub extends_itself : (xs : Bytes) → Extends xs xs
 extends_itself xs = ([], sym (append-nil xs))
@@ -117,3 +119,8 @@ terms_written names all t ts old mid new e m w =
 pub zero_written : (names : List Bytes) (all : List Term) (old new : Bytes) → length all ≡ 0 → new ≡ old ++ 48 ∷ [] → new ≡ old ++ poly_text names (pairs all)
 unfolding poly_text
 zero_written names all old new e w = w ∙ ap (λ us. old ++ poly_text names (pairs us)) (sym (nil_from_length all e))
+
+-- terms over n variables have n exponents
+pub listed_lengths : (p : Prime) (n k : ℕ) (ts : Terms) → k ≡ n → AreListedTerms p n ts → HaveLength k ts
+listed_lengths p n k [] e l = tt
+listed_lengths p n k (t ∷ ts) e l = (l.0 ∙ sym e, listed_lengths p n k ts e l.3)

@@ -2,8 +2,6 @@
 use Rattle.std.specs.Prelude.{◌≡◌, ℕ, ◌+◌, ◌-◌, ◌*◌, ◌<◌, ◌^◌, List, [], ◌∷◌, ◌++◌, map, length, Option, Some, None, option_map, Bool, true, false, if◌then◌else◌, ◌&&◌, ◌||◌, nat_eq, nat_lt, decimal}
 use Rattle.std.specs.List.{slice_split, join_with_byte, list_all}
 use lib.Pointwise.{pointwise}
-use Rattle.fm_gfp.specs.Primes.{prime_value}
-use Rattle.fm_gfp.specs.declared.prime.Prime.{Prime}
 use Rattle.fm_mono.specs.Bounded.{is_bounded}
 use Rattle.fm_algebra.specs.Twist.{AllBelow}
 
@@ -77,6 +75,11 @@ vector_text names v = 40 ∷ join_with_byte 44 (map (poly_text names) v) ++ 41 �
 -- the pieces of a text between the bytes c
 abbrev pub pieces : ℕ → Bytes → List Bytes
 pieces c text = slice_split (λ b. nat_eq b c) text
+
+-- the pieces of a text that may be missing
+abbrev pub pieces_left : ℕ → Option Bytes → List Bytes
+pieces_left c None = []
+pieces_left c (Some text) = pieces c text
 
 infixl 10 ◌>>=◌
 -- f of what there is
@@ -179,20 +182,3 @@ AllPrintable n (f ∷ fs) = ArePrintable n f × AllPrintable n fs
 abbrev pub AreWithinBound : Terms → Type 0
 AreWithinBound [] = Unit {0}
 AreWithinBound (t ∷ ts) = (is_bounded t.0 ≡ true) × AreWithinBound ts
-
--- ---- reading with the program's bounds
-
--- a number below 2^64
-abbrev pub in_word : Option ℕ → Option ℕ
-in_word None = None
-in_word (Some n) = where_so (nat_lt n (2 ^ 64)) (Some n)
-
--- exponents within the bound
-abbrev pub in_bound : Option (List ℕ) → Option (List ℕ)
-in_bound None = None
-in_bound (Some es) = where_so (is_bounded es) (Some es)
-
--- exponents within the bound, and a coefficient below p
-abbrev pub in_ring : Prime → Option (List ℕ × ℕ) → Option (List ℕ × ℕ)
-in_ring p None = None
-in_ring p (Some t) = where_so (is_bounded t.0 && nat_lt t.1 (prime_value p)) (Some t)

@@ -1,5 +1,15 @@
 // Polynomials.
+ghost use Rattle.std.specs.Prelude.{All, IfOk, OnOk, [], length, map, string_bytes, ◌++◌, ◌≡◌};
+ghost use Rattle.fm_algebra.specs.Polynomials.{polynomial_sum};
+ghost use Rattle.fm_poly.specs.Polys.{IsCanonical, IsTermOf, meaning, pairs};
+ghost use Rattle.fm_poly.specs.Printing.{Extends};
+ghost use Rattle.fm_poly.specs.Texts.{poly_text};
+
+use crate::collecting::collect;
+use crate::merging::merge;
+use crate::printing::push_terms;
 use crate::{Ring, Term};
+use std::alloc::{AllocError, Global};
 use std::marker::Model;
 
 /// A polynomial: its ring and its terms, strictly falling in the ring's order, with nonzero coefficients.
@@ -17,4 +27,73 @@ impl Model for Poly {
     ghost view = { λ f. record { ring = f.ring; terms = f.terms.items } };
 
     ghost invariant = { λ f. IsCanonical f.ring f.terms.items };
+}
+
+impl Poly {
+    /// The polynomial 0. It takes no memory.
+    pub fn zero(alloc: Global, ring: Ring) -> Poly
+        ensures ring { result.ring ≡ ring }
+        ensures none { result.terms ≡ [] }
+    {
+        Poly {
+            ring,
+            terms: Vec::new(alloc),
+        }
+    }
+
+    /// The sum of terms in any order, where like terms and zeros may occur.
+    pub fn from_terms(alloc: Global, ring: Ring, terms: &[Term]) -> Result<Poly, AllocError>
+        requires { All (IsTermOf ring) terms.now }
+        ensures ring { IfOk result (λ f. f.ring ≡ ring) }
+        ensures sum { IfOk result (λ f. meaning ring f.terms ≡ meaning ring terms.now) }
+    {
+        let terms = collect(alloc, ring, terms)?;
+        Ok(Poly { ring, terms })
+    }
+
+    pub fn ring(&self) -> Ring
+        ensures { result ≡ self.now.ring }
+    {
+        self.ring
+    }
+
+    /// The terms, falling.
+    pub fn terms(&self) -> &[Term]
+        ensures same { result.now ≡ self.now.terms }
+        ensures canonical { IsCanonical self.now.ring self.now.terms }
+    {
+        &self.terms
+    }
+
+    pub fn copy(&self, alloc: Global) -> Result<Poly, AllocError>
+        ensures { IfOk result (λ f. f ≡ self.now) }
+    {
+        let terms = Vec::from_slice(alloc, &self.terms)?;
+        Ok(Poly {
+            ring: self.ring,
+            terms,
+        })
+    }
+
+    pub fn add(&self, alloc: Global, b: &Poly) -> Result<Poly, AllocError>
+        requires { self.now.ring ≡ b.now.ring }
+        ensures ring { IfOk result (λ f. f.ring ≡ self.now.ring) }
+        ensures sum { IfOk result (λ f. meaning self.now.ring f.terms
+            ≡ polynomial_sum self.now.ring.prime self.now.ring.vars (meaning self.now.ring self.now.terms) (meaning self.now.ring b.now.terms)) }
+    {
+        let terms = merge(alloc, self.ring, &self.terms, &b.terms)?;
+        Ok(Poly {
+            ring: self.ring,
+            terms,
+        })
+    }
+
+    /// Appends the printed form.
+    pub fn text(&self, names: &[String], out: &mut Vec<u8>) -> Result<(), AllocError>
+        requires { length names.now ≡ self.now.ring.vars }
+        ensures ok { OnOk result (out.new.items ≡ out.old.items ++ poly_text (map string_bytes names.now) (pairs self.now.terms)) }
+        ensures prefix { Extends out.old.items out.new.items }
+    {
+        push_terms(names, self.terms(), out)
+    }
 }
