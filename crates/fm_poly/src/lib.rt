@@ -7,7 +7,9 @@ pub(crate) mod multiplying;
 pub mod poly;
 pub mod poly_error;
 pub mod ring;
+pub(crate) mod scaling;
 pub mod term;
+pub(crate) mod twisting;
 
 pub use poly::Poly;
 pub use poly_error::PolyError;
