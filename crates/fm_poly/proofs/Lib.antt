@@ -6,3 +6,4 @@ pub mod ProductSteps
 pub mod BoundSteps
 pub mod PowerSteps
 pub mod TwistSteps
+pub mod KeptTerms

@@ -2,6 +2,7 @@
 #![tactic(auto)]
 
 pub(crate) mod collecting;
+pub mod laws;
 pub(crate) mod merging;
 pub(crate) mod multiplying;
 pub mod poly;
