@@ -10,3 +10,7 @@ pub mod SeenValues
 pub mod ProductSteps
 pub mod PieceSteps
 pub mod SpellingSteps
+pub mod BoundSteps
+pub mod PowerSteps
+pub mod TwistSteps
+pub mod KeptTerms

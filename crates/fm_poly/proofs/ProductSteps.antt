@@ -52,7 +52,7 @@ module _ (r : Ring) where
   all_fit (t ∷ ts) w = (w.0, all_fit ts w.3)
 
   -- ---- a row
-  product_positive : (c d : ℕ) → 0 < c → c < prime_value r.prime → 0 < d → d < prime_value r.prime → 0 < (c * d) % prime_value r.prime
+  pub product_positive : (c d : ℕ) → 0 < c → c < prime_value r.prime → 0 < d → d < prime_value r.prime → 0 < (c * d) % prime_value r.prime
   product_positive c d pc bc pd bd = at ((c * d) % prime_value r.prime) (λ e. elim (no_zero_divisors r.prime c d bc bd e) [ inl z ↦ absurd (omega arith) | inr z ↦ absurd (omega arith) ])
     where
       at : (m : ℕ) → ¬ (m ≡ 0) → 0 < m
@@ -139,3 +139,8 @@ module _ (r : Ring) where
 -- ---- the bound
 pub halves_fit : (f left right g : List Term) → f ≡ left ++ right → products_fit f g ≡ (products_fit left g && products_fit right g)
 halves_fit f left right g e = ap (λ ts. products_fit ts g) e ∙ list_all-append (λ t. row_fits t g) left right
+
+-- ---- the factors in the other order
+pub product_turned : (r : Ring) (f g h : List Term) → meaning r h ≡ polynomial_product r.prime r.vars (meaning r g) (meaning r f) → meaning r h ≡ polynomial_product r.prime r.vars (meaning r f) (meaning r g)
+unfolding polynomial_product
+product_turned r f g h e = e ∙ (polynomials_laws r.prime r.vars).mul_comm (meaning r g) (meaning r f)

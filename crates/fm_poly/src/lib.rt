@@ -2,6 +2,7 @@
 #![tactic(auto)]
 
 pub(crate) mod collecting;
+pub mod laws;
 pub(crate) mod merging;
 pub(crate) mod multiplying;
 pub mod pieces;
@@ -9,9 +10,11 @@ pub mod poly;
 pub mod poly_error;
 pub(crate) mod printing;
 pub mod ring;
+pub(crate) mod scaling;
 pub mod spelling;
 pub mod term;
 pub mod text_laws;
+pub(crate) mod twisting;
 
 pub use poly::Poly;
 pub use poly_error::PolyError;
