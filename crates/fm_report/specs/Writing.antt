@@ -133,9 +133,10 @@ report_says r = flat_map (λ q. said_of r q q.end) r.queries
 
 -- ---- which reports can be written: those whose words are words, and whose numbers are below 2^64
 
--- no blank and no LF
+-- not empty, without a blank and without LF
 abbrev pub is_word : Bytes → Bool
-is_word w = list_all (λ b. if nat_eq b 32 || nat_eq b 10 then false else true) w
+is_word [] = false
+is_word (b ∷ bs) = list_all (λ b. if nat_eq b 32 || nat_eq b 10 then false else true) (b ∷ bs)
 
 module _ (n : ℕ) where
   abbrev pub AreWritableIdeals : List (Bytes × List Terms) → Type 0
