@@ -1,3 +1,4 @@
 mod Rows
 pub mod Lines
 pub mod Steps
+pub mod Written

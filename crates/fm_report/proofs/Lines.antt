@@ -1,10 +1,10 @@
 -- The lines of a text and their words; what a beginning of a text states.
-use Rattle.std.proofs.Common.{◌≡◌, ℕ, ◌+◌, ◌<◌, ◌≤◌, List, [], ◌∷◌, ◌++◌, map, length, refl, sym, ap, subst, ◌∙◌, arith, inl, inr, append_assoc, append-nil}
+use Rattle.std.proofs.Common.{◌≡◌, ℕ, List, [], ◌∷◌, ◌++◌, map, refl, sym, ap, subst, ◌∙◌, arith, append_assoc, append-nil}
 use Rattle.std.specs.Prelude.{Option, Some, None, Bool, true, false, if◌then◌else◌, nat_eq, nat_lt}
 use Rattle.std.specs.List.{join_with_byte, flat_map, list_all}
-use Rattle.std.proofs.lemmas.Bool.{and_parts, ltb-true, eq-eqb, false≢true}
+use Rattle.std.proofs.lemmas.Bool.{and_parts, ltb-true, false≢true}
 use Rattle.fm_poly.specs.Texts.{Bytes, pieces}
-use Rattle.fm_poly.proofs.Cutting.{level, Within, IsText, AreTexts, within_append, within_more, text_more, texts_more, differs, join_text, pieces_join}
+use Rattle.fm_poly.proofs.Cutting.{level, Within, IsText, AreTexts, texts_more, differs}
 use Rattle.fm_poly.proofs.PrintedFactors.{HasFirst, join_cut, joined_text}
 use Rattle.fm_report.specs.Statements.{Statement}
 use Rattle.fm_report.specs.Reading.{State, step, line_states, reading, lines_from, start, statements}

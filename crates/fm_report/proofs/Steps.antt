@@ -1,22 +1,19 @@
 -- The lines of a written report are read.
-use Rattle.std.proofs.Common.{◌≡◌, ℕ, zero, suc, ◌+◌, ◌-◌, ◌^◌, ◌<◌, ◌≤◌, List, [], ◌∷◌, ◌++◌, map, length, refl, sym, ap, subst, ◌∙◌, arith, inl, inr, append_assoc, append-nil, length-append}
-use Rattle.std.specs.Prelude.{Option, Some, None, option_map, is_none, Bool, true, false, if◌then◌else◌, ◌&&◌, nat_eq, nat_lt, codes, decimal}
-use Rattle.std.specs.List.{join_with_byte, list_all}
+use Rattle.std.proofs.Common.{◌≡◌, ℕ, ◌+◌, ◌^◌, ◌<◌, List, [], ◌∷◌, ◌++◌, map, length, refl, sym, ap, ◌∙◌, arith, length-append}
+use Rattle.std.specs.Prelude.{Option, Some, None, option_map, true, ◌&&◌, nat_eq, codes, decimal}
 use Rattle.std.proofs.lemmas.List.{length-map}
-use Rattle.std.proofs.lemmas.Bool.{and_parts, eq-eqb, ne_eqb, false≢true}
+use Rattle.std.proofs.lemmas.Bool.{and_parts, eq-eqb}
 use Rattle.fm_gfp.specs.Primes.{prime_value}
 use Rattle.fm_gfp.specs.declared.prime.Prime.{Prime}
 use Rattle.fm_gfp.specs.declared.prime.Prime.TheVariants.{Two, Three, Five, Seven, Eleven, Thirteen}
-use Rattle.fm_mono.specs.declared.order.Order.{Order}
-use Rattle.fm_mono.specs.declared.order.Order.TheVariants.{Grevlex, Deglex, Lex}
-use Rattle.fm_poly.specs.Texts.{Bytes, Terms, same_bytes, is_name, are_names, AreNames, pieces, ◌>>=◌, where_so, all_of, number_of, poly_of, vector_of, poly_text, vector_text, ArePrintable, AllPrintable}
-use Rattle.fm_poly.proofs.Cutting.{level, IsText, AreTexts, within_append, within_more, text_more, texts_more, pieces_at}
+use Rattle.fm_poly.specs.Texts.{Bytes, Terms, same_bytes, is_name, are_names, AreNames, pieces, ◌>>=◌, where_so, all_of, number_of, poly_of, vector_of, poly_text, vector_text, AllPrintable}
+use Rattle.fm_poly.proofs.Cutting.{IsText, AreTexts, within_append, within_more, text_more, pieces_at}
 use Rattle.fm_poly.proofs.Decimals.{number_of_decimal, decimal_text}
 use Rattle.fm_poly.proofs.PrintedFactors.{HasFirst, name_text, same_refl}
 use Rattle.fm_poly.proofs.PrintedPolys.{all_read, poly_read, poly_is_text, vector_read, vector_is_text}
-use Rattle.fm_report.specs.Statements.{PrintedMatrix, Part, given, ClassQuestion, Question, class, Answer, yes_at_stage, no, Statement, verdict}
-use Rattle.fm_report.specs.Reading.{State, start, names_in, ideal_named, part_numbered, part_at, prime_of, generators_of, before_comma, class_question, question_of, class_answer, answer_to, is_datum_of, given_part, part_of, step, line_states}
-use Rattle.fm_report.specs.Writing.{order_name, generator_words, ideal_words, question_words, answer_words, datum_words, given_words, AreWritableColumns, IsWritableQuestion, IsWritableAnswer}
+use Rattle.fm_report.specs.Statements.{PrintedMatrix, Part, given, ClassQuestion, Question, class, Answer, yes_at_stage, no, Statement}
+use Rattle.fm_report.specs.Reading.{State, start, names_in, ideal_named, part_numbered, part_at, prime_of, generators_of, before_comma, class_question, question_of, given_part, part_of, step, line_states}
+use Rattle.fm_report.specs.Writing.{generator_words, ideal_words, question_words, answer_words, datum_words, given_words, AreWritableColumns, IsWritableQuestion, IsWritableAnswer}
 use Rattle.fm_report.proofs.Lines.{IsLine, AreLines, line, text_by_test, reading_words}
 
 -- the state of a report over GF(p)[names] with these ideals, at query k
@@ -94,7 +91,7 @@ generators_read names f [] h p = ap (option_map (λ f. f ∷ [])) (poly_read nam
 generators_read names f (g ∷ fs) h p =
     with_comma names (poly_text names f ++ 44 ∷ []) (generator_words names (g ∷ fs)) (generators_first names g fs)
     ∙ ap (λ ps. before_comma ps >>= λ u. poly_of names u >>= λ f. option_map (λ fs. f ∷ fs) (generators_of names (generator_words names (g ∷ fs))))
-      (pieces_at 4 44 (omega arith) (poly_text names f) [] (poly_is_text names f h p.0).within)
+    (pieces_at 4 44 (omega arith) (poly_text names f) [] (poly_is_text names f h p.0).within)
     ∙ ap (λ o. o >>= λ f. option_map (λ fs. f ∷ fs) (generators_of names (generator_words names (g ∷ fs)))) (poly_read names f h p.0)
     ∙ ap (option_map (λ fs. f ∷ fs)) (generators_read names g fs h p.1)
 
@@ -139,9 +136,9 @@ pub query_read : (p : Prime) (names : List Bytes) (ideals : List (Bytes × List 
 unfolding step
 query_read p names ideals k a b ps ds ts (class q) h w l =
     ap (λ o. o >>= λ j. where_so (nat_eq j (k + 1)) (question_of (at p names ideals k a b ps ds ts) (codes "class") (decimal q.degree ∷ q.ideal ∷ decimal q.stage ∷ vector_text names q.vector ∷ []) >>= λ q. Some (at p names ideals j (Some q) None [] [] [])))
-      (number_of_decimal (k + 1) l)
+    (number_of_decimal (k + 1) l)
     ∙ ap (λ t. where_so t (class_question (at p names ideals k a b ps ds ts) (decimal q.degree ∷ q.ideal ∷ decimal q.stage ∷ vector_text names q.vector ∷ []) >>= λ q. Some (at p names ideals (k + 1) (Some q) None [] [] [])))
-      (eq-eqb (k + 1) (k + 1) refl)
+    (eq-eqb (k + 1) (k + 1) refl)
     ∙ ap (λ o. o >>= λ q. Some (at p names ideals (k + 1) (Some q) None [] [] [])) (question_read (at p names ideals k a b ps ds ts) names q refl h w)
 
 pub query_line_of : (names : List Bytes) (ideals : List (Bytes × List Terms)) (k : ℕ) (q : Question) → AreNames names → IsWritableQuestion (length names) ideals q → k < 2 ^ 64

@@ -110,7 +110,7 @@ query_lines names k (q ∷ qs) =
 abbrev pub report_lines : Report → List (List Bytes)
 report_lines r =
     (codes "report" ∷ codes "0" ∷ []) ∷ (codes "ring" ∷ decimal (prime_value r.prime) ∷ r.names) ∷ (codes "order" ∷ order_name r.order ∷ [])
-    ∷ map (ideal_words r.names) r.ideals ++ query_lines r.names 1 r.queries ++ (codes "end" ∷ codes "report" ∷ []) ∷ []
+    ∷ map (ideal_words r.names) r.ideals ++ (query_lines r.names 1 r.queries ++ (codes "end" ∷ codes "report" ∷ []) ∷ [])
 
 -- the words joined by a blank, and LF
 abbrev pub line_text : List Bytes → Bytes
