@@ -19,3 +19,5 @@ pub mod Terms
 pub mod PolynomialWords
 pub mod TermWords
 pub mod TwistWords
+pub mod FallingTerms
+pub mod HeadTwist
