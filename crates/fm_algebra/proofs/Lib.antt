@@ -21,3 +21,5 @@ pub mod TermWords
 pub mod TwistWords
 pub mod FallingTerms
 pub mod HeadTwist
+pub mod HeadWords
+pub mod SplitWords

@@ -1,1 +1,5 @@
 // The laws of the algebra.
+pub mod heads;
+pub mod polynomials;
+pub mod terms;
+pub mod twists;
