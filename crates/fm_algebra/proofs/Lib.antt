@@ -23,3 +23,4 @@ pub mod FallingTerms
 pub mod HeadTwist
 pub mod HeadWords
 pub mod SplitWords
+pub mod SliceSum

@@ -1,3 +1,4 @@
+use Rattle.fm_algebra.proofs.SliceSum.{slice_total}
 use Rattle.fm_algebra.proofs.TwistWords.{slice_coefficient, same_slices, any_slices, slice_of_sum, slice_of_product}
 use Rattle.fm_algebra.proofs.laws.twists.a_polynomial_is_its_slices.Goals as goal
 
@@ -15,3 +16,6 @@ returns-clause-sum c = slice_of_sum
 
 pub returns-clause-product : goal.returns-clause-product
 returns-clause-product c = slice_of_product
+
+pub returns-clause-total : goal.returns-clause-total
+returns-clause-total c = slice_total
