@@ -10,7 +10,7 @@ use Rattle.fm_algebra.specs.Gf.{gf, gf_is_zero, prime_positive, residue, Residue
 use Rattle.fm_algebra.specs.Poly.{coeff, same_tuple, tuple_eq, apart}
 use Rattle.fm_algebra.specs.Monomial.{monomial, sum_of_terms}
 use Rattle.fm_algebra.specs.Heads.{IsMonomialOrder, IsHead, AllLess, IsFalling, AreTerms}
-use Rattle.fm_algebra.specs.Polynomials.{Polynomial, polynomials, coefficient, polynomial_zero, polynomial_sum, polynomial_product, polynomial_term, polynomial_of, listed_coefficient, AreListedTerms, HasHead}
+use Rattle.fm_algebra.specs.Polynomials.{Polynomial, polynomials, coefficient, polynomial_zero, polynomial_sum, polynomial_product, polynomial_term, polynomial_of, listed_coefficient, AllFit, AreListedTerms, HasHead}
 use Rattle.fm_algebra.proofs.Algebra.{mul_zero}
 use Rattle.fm_algebra.proofs.Gf.{gf_laws}
 use Rattle.fm_algebra.proofs.Monomial.{monomial_mul}
@@ -22,7 +22,7 @@ module _ (p : Prime) (n : ℕ) where
   abbrev pub Terms : Type 0
   Terms = List (List ℕ × ℕ)
 
-  abbrev of : ℕ → Residue (prime_value p)
+  abbrev pub of : ℕ → Residue (prime_value p)
   of c = residue (prime_value p) (prime_positive p) c
 
   pub of_append : (ts us : Terms) → polynomial_of p n (ts ++ us) ≡ polynomial_sum p n (polynomial_of p n ts) (polynomial_of p n us)
@@ -81,11 +81,6 @@ module _ (p : Prime) (n : ℕ) where
       nothing false k = omega arith
 
   -- ---- products
-  -- every tuple has n exponents
-  abbrev pub AllFit : Terms → Type 0
-  AllFit [] = Unit {0}
-  AllFit (t ∷ ts) = (length t.0 ≡ n) × AllFit ts
-
   -- c * x ^ a times each term
   abbrev pub shifted_terms : ℕ → List ℕ → Terms → Terms
   shifted_terms c a ts = map (λ t. (tuple_sum a t.0, c * t.1)) ts
@@ -97,7 +92,7 @@ module _ (p : Prime) (n : ℕ) where
       monomial_mul (gf p) (gf_laws p) (gf_is_zero p) n (of c) (of d) a b l m
       ∙ ap (λ x. monomial (gf p) (gf_is_zero p) n x (tuple_sum a b)) (same_residue _ _ (mul-mod_first c (d % prime_value p) (prime_value p) ∙ mul-mod_second c d (prime_value p)))
 
-  pub term_times : (c : ℕ) (a : List ℕ) (ts : Terms) → length a ≡ n → AllFit ts
+  pub term_times : (c : ℕ) (a : List ℕ) (ts : Terms) → length a ≡ n → AllFit n ts
       → polynomial_product p n (polynomial_term p n c a) (polynomial_of p n ts) ≡ polynomial_of p n (shifted_terms c a ts)
   unfolding polynomial_of polynomial_product polynomial_sum polynomial_zero
   term_times c a [] l f = mul_zero (polynomials_laws p n) (polynomial_term p n c a)
@@ -106,10 +101,10 @@ module _ (p : Prime) (n : ℕ) where
       ∙ ap₂ (polynomials p n).add (term_product c t.1 a t.0 l f.0) (term_times c a ts l f.1)
 
   -- ---- falling lists
-  abbrev reduced : Terms → List (List ℕ × Residue (prime_value p))
+  abbrev pub reduced : Terms → List (List ℕ × Residue (prime_value p))
   reduced ts = map (λ t. (t.0, of t.1)) ts
 
-  of_reduced : (ts : Terms) → polynomial_of p n ts ≡ sum_of_terms (gf p) (gf_is_zero p) n (reduced ts)
+  pub of_reduced : (ts : Terms) → polynomial_of p n ts ≡ sum_of_terms (gf p) (gf_is_zero p) n (reduced ts)
   unfolding polynomial_of polynomial_sum polynomial_zero polynomial_term sum_of_terms
   of_reduced [] = refl
   of_reduced (t ∷ ts) = ap ((polynomials p n).add (polynomial_term p n t.1 t.0)) (of_reduced ts)

@@ -82,6 +82,11 @@ module _ (p : Prime) (n : ℕ) where
   AreListedTerms [] = Unit {0}
   AreListedTerms (t ∷ ts) = (length t.0 ≡ n) × (0 < t.1) × (t.1 < prime_value p) × AreListedTerms ts
 
+-- every tuple of a list of terms has n exponents
+abbrev pub AllFit : ℕ → List (List ℕ × ℕ) → Type 0
+AllFit n [] = Unit {0}
+AllFit n (t ∷ ts) = (length t.0 ≡ n) × AllFit n ts
+
 -- the sum of the coefficients that stand at the exponents a in a list of terms
 abbrev pub listed_coefficient : List (List ℕ × ℕ) → List ℕ → ℕ
 listed_coefficient [] a = 0
