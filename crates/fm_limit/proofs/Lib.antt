@@ -1,0 +1,6 @@
+pub mod Chains
+pub mod Moves
+pub mod Vanishing
+pub mod Maps
+pub mod Homotopy
+pub mod Induced
