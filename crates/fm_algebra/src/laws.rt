@@ -1,4 +1,5 @@
 // The laws of the algebra.
+pub mod examples;
 pub mod heads;
 pub mod polynomials;
 pub mod terms;
