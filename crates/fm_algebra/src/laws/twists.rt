@@ -54,11 +54,14 @@ pub fn twists_are_one_to_one()
 {}
 
 /// The ring is free over the ring of the q-th powers, with the monomials whose exponents are below q as a basis (Kunz 1969):
-/// f is the sum of all x^a * (slice of f at a)^[q], is told by its slices, and any choice of slices is that of some f. To multiply by a twist is to multiply each slice.
+/// f is the sum of all x^a * (slice of f at a)^[q], in no other way, and any choice of slices is that of some f. To multiply by a twist is to multiply each slice.
 pub fn a_polynomial_is_its_slices()
     ensures total { (p : Prime) (n e : ℕ) (f : Polynomial p n)
         → polynomial_total p n (map (λ a. polynomial_product p n (polynomial_term p n 1 a) (frobenius_twist p n e (frobenius_slice p n e a f)))
         (tuples_below n (prime_value p ^ e))) ≡ f }
+    ensures independent { (p : Prime) (n e : ℕ) (u : List ℕ → Polynomial p n) (d : List ℕ) → length d ≡ n → AllBelow (prime_value p ^ e) d
+        → frobenius_slice p n e d (polynomial_total p n (map (λ a. polynomial_product p n (polynomial_term p n 1 a) (frobenius_twist p n e (u a)))
+        (tuples_below n (prime_value p ^ e)))) ≡ u d }
     ensures coefficients { (p : Prime) (n e : ℕ) (a b : List ℕ) (f : Polynomial p n) → length a ≡ n → AllBelow (prime_value p ^ e) a → length b ≡ n
         → coefficient p n (frobenius_slice p n e a f) b ≡ coefficient p n f (tuple_place (prime_value p ^ e) b a) }
     ensures same { (p : Prime) (n e : ℕ) (f g : Polynomial p n)
