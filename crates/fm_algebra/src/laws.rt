@@ -1,6 +1,7 @@
 // The laws of the algebra.
 
 pub mod matrices;
+pub mod examples;
 pub mod heads;
 pub mod polynomials;
 pub mod terms;
