@@ -4,3 +4,5 @@ pub mod Vanishing
 pub mod Maps
 pub mod Homotopy
 pub mod Induced
+pub mod Independence
+pub mod Resolved
