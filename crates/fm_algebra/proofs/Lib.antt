@@ -20,6 +20,21 @@ pub mod Monomial
 pub mod Binomial
 pub mod Frobenius
 pub mod Concrete
+<<<<<<< HEAD
 pub mod DigitsListed
 pub mod PolynomialMatrices
 pub mod FamilyPowers
+=======
+pub mod Domain
+pub mod Lex
+pub mod Terms
+pub mod PolynomialWords
+pub mod TermWords
+pub mod TwistWords
+pub mod FallingTerms
+pub mod HeadTwist
+pub mod HeadWords
+pub mod SplitWords
+pub mod SliceSum
+pub mod WorkedExamples
+>>>>>>> ef9c964eba77eb97d9e61ea8cea630df9df74272
