@@ -20,11 +20,9 @@ pub mod Monomial
 pub mod Binomial
 pub mod Frobenius
 pub mod Concrete
-<<<<<<< HEAD
 pub mod DigitsListed
 pub mod PolynomialMatrices
 pub mod FamilyPowers
-=======
 pub mod Domain
 pub mod Lex
 pub mod Terms
@@ -37,4 +35,3 @@ pub mod HeadWords
 pub mod SplitWords
 pub mod SliceSum
 pub mod WorkedExamples
->>>>>>> ef9c964eba77eb97d9e61ea8cea630df9df74272

@@ -5,7 +5,8 @@ use native.Mathlib.Bridge.{le_prop}
 use Rattle.fm_algebra.specs.Matrices.{Matrices, IsMatrices}
 use Rattle.fm_algebra.specs.Image.{InImage, SameImage, IsPower, pow}
 use Rattle.fm_algebra.proofs.Images.{image_add, image_nil, image_neg, image_trans, within_columns, columns_within, nil_add, neg_unique, sub_add, mul_neg, kernel_product, kernel_matrix, mul_nil}
-use Rattle.fm_limit.specs.Resolution.{rank_of, d_below, Complex, IsResolution, IsFrobeniusLift, IsLiftOfIdentity}
+use Rattle.fm_limit.specs.Resolution.{rank_of, d_below, Complex}
+use Rattle.fm_limit.proofs.Resolutions.{IsResolution, IsFrobeniusLift, IsLiftOfIdentity}
 use Rattle.fm_limit.specs.DirectSystem.{degree, Degree, IsCocycle, IsCoboundary, move, moved, IsKilledBy, IsZeroInLimit, IsSameInLimit}
 use Rattle.fm_limit.specs.Limit.{mapped, LimitIsZero, VanishesInverting, Annihilates, IsEnough, IsSupportIdeal, InducedMapIsZero, InducedMapIsOneToOne, InducedMapIsOnto}
 use Rattle.fm_limit.proofs.Moves.{Moves, dual, cocycle_moves, cocycles_moves, coboundary_cocycle, coboundaries_moves, moved_add, moved_neg}

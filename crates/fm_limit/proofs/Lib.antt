@@ -1,3 +1,4 @@
+pub mod Resolutions
 pub mod Chains
 pub mod Moves
 pub mod Vanishing

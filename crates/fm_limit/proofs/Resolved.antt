@@ -3,7 +3,8 @@ use Rattle.std.proofs.Common.{ℕ, zero, suc, ◌+◌, ◌<◌, ◌≤◌, ◌�
 use Rattle.fm_algebra.specs.Matrices.{Matrices, IsMatrices}
 use Rattle.fm_algebra.specs.Image.{InImage, IsPower, pow}
 use Rattle.fm_algebra.proofs.Images.{image_trans, image_add, image_neg, nil_mul}
-use Rattle.fm_limit.specs.Resolution.{rank_of, rank_before, d_below, Complex, IsResolution, IsFrobeniusLift, IsLiftOfIdentity}
+use Rattle.fm_limit.specs.Resolution.{rank_of, rank_before, d_below, Complex}
+use Rattle.fm_limit.proofs.Resolutions.{IsResolution, IsFrobeniusLift, IsLiftOfIdentity}
 use Rattle.fm_limit.specs.DirectSystem.{degree, Degree, IsCocycle, IsCoboundary, moved, IsKilledBy, IsZeroInLimit, IsSameInLimit}
 use Rattle.fm_limit.specs.Limit.{mapped, LimitIsZero, VanishesInverting, Annihilates, IsEnough, IsSupportIdeal, InducedMapIsZero, InducedMapIsOneToOne, InducedMapIsOnto, IsOntoBy}
 use Rattle.fm_limit.proofs.Moves.{Moves, dual, moved_times}
