@@ -3,6 +3,7 @@
 pub mod matrices;
 pub mod examples;
 pub mod heads;
+pub mod matrices;
 pub mod polynomials;
 pub mod terms;
 pub mod twists;
