@@ -1,11 +1,23 @@
 // Laws of the monomial orders, on exponent tuples of any size.
-ghost use Rattle.std.specs.Prelude.{Bool, IsTrue, List, length, replicate, ℕ, ◌<◌, ◌↔◌, ◌≡◌, ◌⊎◌};
-ghost use Rattle.std.specs.Ordering.{ordering_reverse};
+ghost use Rattle.std.specs.Prelude.{Bool, IsTrue, List, length, replicate, slice_index, sum, ℕ, ◌<◌, ◌↔◌, ◌≡◌, ◌≢◌, ◌⊎◌};
+ghost use Rattle.std.specs.Ordering.{nat_cmp, ordering_reverse};
 ghost use Rattle.std.specs.declared.cmp.Ordering.TheVariants.{Equal, Less};
 ghost use Rattle.fm_tuple.specs.Tuple.{TupleDivides, tuple_multiple, tuple_sum};
 ghost use Rattle.fm_mono.specs.declared.order.Order.{Order};
+ghost use Rattle.fm_mono.specs.declared.order.Order.TheVariants.{Deglex, Grevlex, Lex};
 ghost use Rattle.fm_mono.specs.Accessible.{IsAccessible};
 ghost use Rattle.fm_mono.specs.Orders.{monomial_cmp};
+
+/// What the orders are, place by place: the total degree decides first but in the lexicographic order, and then the first
+/// variable whose exponents differ, or in the degree reverse lexicographic order the last one, where the smaller exponent is greater.
+pub fn monomial_orders_by_exponents()
+    ensures degrees { (o : Order) (a b : List ℕ) → o ≢ Lex → sum a ≢ sum b → monomial_cmp o a b ≡ nat_cmp (sum a) (sum b) }
+    ensures lex { (a b : List ℕ) (k : ℕ) → length b ≡ length a → k < length a → slice_index a k ≢ slice_index b k
+        → ((j : ℕ) → j < k → slice_index a j ≡ slice_index b j) → monomial_cmp Lex a b ≡ nat_cmp (slice_index a k) (slice_index b k) }
+    ensures deglex { (a b : List ℕ) → sum a ≡ sum b → monomial_cmp Deglex a b ≡ monomial_cmp Lex a b }
+    ensures grevlex { (a b : List ℕ) (k : ℕ) → length b ≡ length a → sum a ≡ sum b → k < length a → slice_index a k ≢ slice_index b k
+        → ((j : ℕ) → k < j → slice_index a j ≡ slice_index b j) → monomial_cmp Grevlex a b ≡ nat_cmp (slice_index b k) (slice_index a k) }
+{}
 
 /// Each of the three orders is a total order in which only equal monomials tie.
 pub fn monomial_orders_are_total()
