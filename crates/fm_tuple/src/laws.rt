@@ -32,6 +32,7 @@ pub fn divisibility_is_a_partial_order()
 
 /// The greater entries are the exponents of the least common multiple.
 pub fn maxima_are_least_common_multiples()
-    ensures multiple { (a b : List ℕ) → length a ≡ length b → TupleDivides a (tuple_maximum a b) × TupleDivides b (tuple_maximum a b) }
+    ensures multiple { (a b : List ℕ) → length a ≡ length b
+        → TupleDivides a (tuple_maximum a b) × TupleDivides b (tuple_maximum a b) }
     ensures least { (a b c : List ℕ) → TupleDivides a c → TupleDivides b c → TupleDivides (tuple_maximum a b) c }
 {}
