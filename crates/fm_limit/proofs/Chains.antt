@@ -83,6 +83,15 @@ module _ {M : Matrices} (L : IsMatrices M) where
         λ h. (t, (steps_exact t e w).1 h),
       )
 
+  -- a chain that was computed through its repeat rises
+  module _ {g : ℕ} {U : Mat g g} {sizes : ℕ → ℕ} {K : (s : ℕ) → Mat g (sizes s)} (t : ℕ) (begins : InImage M (twist 1 (K zero)) (U ⊛ K zero)) (step : (s : ℕ) → s < suc t → Generates M (K (suc s)) U (twist 1 (K s))) where
+    pub rising_to : (s : ℕ) → s < suc t → Within M (K s) (K (suc s))
+    rising_to zero b v h =
+        (step zero b v).1 (subst (λ x. InImage M (twist 1 (K zero)) x) (assoc U (K zero) h.0 ∙ ap (λ x. U ⊛ x) h.1) (image_mul L (twist 1 (K zero)) (U ⊛ K zero) h.0 begins))
+    rising_to (suc s) b v h =
+        let c : s < suc t = omega arith in
+        (step (suc s) b v).1 (within_twist L 1 (K s) (K (suc s)) (rising_to s c) (U ⊛ v) ((step s c v).0 h))
+
   -- a chain that was computed through its repeat goes on with the repeated member
   module _ {g : ℕ} {U : Mat g g} {sizes : ℕ → ℕ} {K : (s : ℕ) → Mat g (sizes s)} (t : ℕ) (same : SameImage M (K t) (K (suc t))) (begins : InImage M (twist 1 (K zero)) (U ⊛ K zero)) (step : (s : ℕ) → s < suc t → Generates M (K (suc s)) U (twist 1 (K s))) where
     pub continued : Chain M g U (λ s. sizes (min s t)) (λ s. K (min s t))

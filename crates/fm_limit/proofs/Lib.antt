@@ -7,3 +7,5 @@ pub mod Homotopy
 pub mod Induced
 pub mod Independence
 pub mod Resolved
+pub mod Reading
+pub mod FactsRead
