@@ -46,6 +46,10 @@ module _ (p : Prime) (n : ℕ) where
       let c = column_shaped (polynomials p n) (length fs) fs refl in
       transpose_shaped (polynomials p n) (length fs) 1 (column_matrix (polynomials p n) fs) c.0 c.1
 
+  pub row_fits : (fs : List (Polynomial p n)) → HasShape p n 1 (length fs) (row p n fs)
+  unfolding HasShape
+  row_fits fs = row_shaped fs
+
   pub fits_at : {gens : List (Polynomial p n)} {i : ℕ} {ds : List (PolynomialMatrix p n)} → IsResolutionOf p n gens i ds → (j : ℕ) → j ≤ i
       → IsShaped (polynomials p n) (rank p n ds j) (columns_of p n ds j) (matrix_at p n ds j)
   unfolding HasShape
@@ -218,10 +222,15 @@ module _ (p : Prime) (n : ℕ) where
 
   -- ---- the facts of a degree
   module _ {i : ℕ} {I : ResolvedIdeal p n} {Z U : PolynomialMatrix p n} {Ks : List (PolynomialMatrix p n)} {t : ℕ} (X : DegreeFacts p n i I Z U Ks t) where
-    facts_begin : InImage (matrices p n) (each (polynomials p n) (frobenius_twist p n 1) (member (length Z.columns) Ks zero)) (mul (polynomials p n) (read (polynomials p n) (length Z.columns) (length Z.columns) U) (member (length Z.columns) Ks zero))
+    pub facts_begin : InImage (matrices p n) (each (polynomials p n) (frobenius_twist p n 1) (member (length Z.columns) Ks zero)) (mul (polynomials p n) (read (polynomials p n) (length Z.columns) (length Z.columns) U) (member (length Z.columns) Ks zero))
     facts_begin = relations_begin matrices_laws matrices_flat (moves_read X.resolved) (ext_read X.resolved X.ext)
 
-    pub facts_read : Computed (matrices p n) (degree_in p n i I)
+    pub facts_ext : Ext (matrices p n) (degree_in p n i I) (length Z.columns) (columns_of p n Ks (min zero t)) (read (polynomials p n) (length_in p n i I) (length Z.columns) Z) (member (length Z.columns) Ks (min zero t)) (read (polynomials p n) (length Z.columns) (length Z.columns) U)
+    facts_ext =
+        let q : zero ≡ min zero t = omega arith in
+        subst (λ x. Ext (matrices p n) (degree_in p n i I) (length Z.columns) (columns_of p n Ks x) (read (polynomials p n) (length_in p n i I) (length Z.columns) Z) (member (length Z.columns) Ks x) (read (polynomials p n) (length Z.columns) (length Z.columns) U)) q (ext_read X.resolved X.ext)
+
+    abbrev pub facts_read : Computed (matrices p n) (degree_in p n i I)
     facts_read = record {
       g = length Z.columns;
       sizes = λ s. columns_of p n Ks (min s t);
@@ -229,7 +238,7 @@ module _ (p : Prime) (n : ℕ) where
       U = read (polynomials p n) (length Z.columns) (length Z.columns) U;
       K = λ s. member (length Z.columns) Ks (min s t);
       chain = chain_read (length Z.columns) (X.ext).morphism_fits X.chain facts_begin;
-      ext = let q : zero ≡ min zero t = omega arith in subst (λ x. Ext (matrices p n) (degree_in p n i I) (length Z.columns) (columns_of p n Ks x) (read (polynomials p n) (length_in p n i I) (length Z.columns) Z) (member (length Z.columns) Ks x) (read (polynomials p n) (length Z.columns) (length Z.columns) U)) q (ext_read X.resolved X.ext);
+      ext = facts_ext;
       t = t;
       same = last_same (length Z.columns) (X.ext).morphism_fits X.chain facts_begin;
     }

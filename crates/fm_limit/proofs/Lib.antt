@@ -9,3 +9,4 @@ pub mod Independence
 pub mod Resolved
 pub mod Reading
 pub mod FactsRead
+pub mod Waist

@@ -54,5 +54,6 @@ module _ (p : Prime) (n : ℕ) where
 
   -- C_0 .. C_(k+1) are colons of im K by powers of f: C_0 spans im K, and each C_(j+1) generates all w with f * w in im C_j.
   pub record IsColons (K : PolynomialMatrix p n) (f : Polynomial p n) (Cs : List (PolynomialMatrix p n)) (k : ℕ) : Type 0 where
+    pub fits : (j : ℕ) → j ≤ k + 1 → HasShape p n K.rows (length (matrix_at p n Cs j).columns) (matrix_at p n Cs j)
     pub first : (v : List (Polynomial p n)) → InImage p n (matrix_at p n Cs 0) v ↔ InImage p n K v
     pub step : (j : ℕ) → j ≤ k → GeneratesPreimage p n (matrix_at p n Cs (suc j)) (matrix_scalar p n f K.rows) (matrix_at p n Cs j)
