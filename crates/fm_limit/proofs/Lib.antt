@@ -10,3 +10,5 @@ pub mod Resolved
 pub mod Reading
 pub mod FactsRead
 pub mod Waist
+pub mod ColonFacts
+pub mod InducedFacts

@@ -175,6 +175,14 @@ module _ {M : Matrices} (L : IsMatrices M) where
       λ h w. (colon_exact j b w).1 (scalar_all (pow M f j) A h w),
     )
 
+    -- the colons rise
+    pub colon_rises : (w : Mat g 1) → InImage M (colon k) w → InImage M (colon (suc k)) w
+    colon_rises w h =
+        let bk : k ≤ suc k = omega arith in
+        let bs : suc k ≤ suc k = omega arith in
+        let q : k + 1 ≡ suc k = omega arith in
+        (colon_exact (suc k) bs w).1 (subst (λ x. InImage M A (w ⊛ pow M f x)) q (further w k 1 ((colon_exact k bk w).0 h)))
+
     pub colon_down : SameImage M (colon k) (colon (suc k)) → (n : ℕ) (w : Mat g 1) → InImage M A (w ⊛ pow M f (k + n)) → InImage M A (w ⊛ pow M f k)
     colon_down rep zero w h = subst (λ x. InImage M A (w ⊛ pow M f x)) (add-zero k) h
     colon_down rep (suc n) w h =

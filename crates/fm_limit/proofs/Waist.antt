@@ -65,10 +65,10 @@ module _ (p : Prime) (n : ℕ) where
 
   module _ {i : ℕ} {I : ResolvedIdeal p n} {Z U : PolynomialMatrix p n} {Ks : List (PolynomialMatrix p n)} {t : ℕ} (X : DegreeFacts p n i I Z U Ks t) where
     -- the stable kernel
-    abbrev S : PolynomialMatrix p n
+    abbrev pub S : PolynomialMatrix p n
     S = matrix_at p n Ks t
 
-    abbrev g : ℕ
+    abbrev pub g : ℕ
     g = length Z.columns
 
     stable_fits : HasShape p n g (columns_of p n Ks t) (matrix_at p n Ks t)
@@ -102,7 +102,7 @@ module _ (p : Prime) (n : ℕ) where
 
     -- ---- classes
     -- w are coordinates of the vector z at stage e
-    abbrev AreCoordinates : (e : ℕ) (z w : List (Polynomial p n)) → Type 0
+    abbrev pub AreCoordinates : (e : ℕ) (z w : List (Polynomial p n)) → Type 0
     AreCoordinates e z w = (length w ≡ g) × (vector_product p n (matrix_twist p n e Z) w ≡ z)
 
     coordinates_read : (e : ℕ) (z w : List (Polynomial p n)) → AreCoordinates e z w
