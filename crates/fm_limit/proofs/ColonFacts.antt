@@ -51,15 +51,15 @@ module _ (p : Prime) (n : ℕ) where
         through (everything_read p n g (columns_of p n Cs j) (matrix_at p n Cs j) (C.fits j b))
         (through (colon_everything (matrices_laws p n) A (element (polynomials p n) f) k first_read step_read j c) (turned (power_read j)))
 
-    -- if C_(k+1) adds nothing to C_k and is not everything, no power of f works
-    pub never_fact : ColumnsInImage p n (matrix_at p n Cs k) (matrix_at p n Cs (suc k)) → (IsEverything p n (matrix_at p n Cs (suc k)) → ⊥)
+    -- if C_(k+1) adds nothing to C_k, and C_k is not everything, no power of f works
+    pub never_fact : ColumnsInImage p n (matrix_at p n Cs k) (matrix_at p n Cs (suc k)) → (IsEverything p n (matrix_at p n Cs k) → ⊥)
         → (m : ℕ) → ColumnsInImage p n K (matrix_scalar p n (polynomial_power p n m f) K.rows) → ⊥
     never_fact rep proper m h =
         let fk = C.fits k (omega arith) in
         let fs = C.fits (suc k) (omega arith) in
         let back : InImage (matrices p n) (member p n g Cs k) (member p n g Cs (suc k)) = (columns_from p n g (columns_of p n Cs k) (columns_of p n Cs (suc k)) (matrix_at p n Cs k) (matrix_at p n Cs (suc k)) fk fs).0 rep in
         let same : SameImage (matrices p n) (member p n g Cs k) (member p n g Cs (suc k)) = λ v. (colon_rises (matrices_laws p n) A (element (polynomials p n) f) k first_read step_read v, columns_within (matrices_laws p n) (member p n g Cs k) (member p n g Cs (suc k)) back v) in
-        colon_never (matrices_laws p n) A (element (polynomials p n) f) k first_read step_read same (λ e. proper ((everything_read p n g (columns_of p n Cs (suc k)) (matrix_at p n Cs (suc k)) fs).1 e)) m ((power_read m).0 h)
+        colon_never (matrices_laws p n) A (element (polynomials p n) f) k first_read step_read same (λ e. proper ((everything_read p n g (columns_of p n Cs k) (matrix_at p n Cs k) fk).1 (λ v. (same v).1 (e v)))) m ((power_read m).0 h)
 
   module _ {i : ℕ} {I : ResolvedIdeal p n} {Z U : PolynomialMatrix p n} {Ks : List (PolynomialMatrix p n)} {t : ℕ} (X : DegreeFacts p n i I Z U Ks t) where
     -- every class has coordinates

@@ -22,7 +22,7 @@ use Rattle.fm_limit.specs.ResolvedIdeal.{ResolvedIdeal, matrix_at, columns_of, r
 use Rattle.fm_limit.specs.Classes.{matrices, read_at, complex_of, theta_of, lambda_of, degree_in, length_in}
 use Rattle.fm_limit.specs.Facts.{ColumnsInImage, PresentsExt, IsChain, DegreeFacts}
 use Rattle.fm_limit.proofs.Resolutions.{IsResolution, IsFrobeniusLift, IsLiftOfIdentity}
-use Rattle.fm_limit.proofs.Chains.{Chain, rising_to, continued}
+use Rattle.fm_limit.proofs.Chains.{Chain, rising_to, continued, last_repeats}
 use Rattle.fm_limit.proofs.Moves.{Moves, Ext, Computed, relations_begin}
 use Rattle.fm_limit.proofs.Homotopy.{lift_moves}
 use Rattle.fm_limit.proofs.Reading.{one_entry, generates_kernel_read, generates_read, same_read, columns_read}
@@ -188,37 +188,49 @@ module _ (p : Prime) (n : ℕ) where
   unfolding HasShape words.InImage
   columns_from m a k A B s t = columns_read (polynomials p n) (frobenius_twist p n) (polynomials_laws p n) (polynomials_frobenius p n) m a k A B s.0 s.1 t
 
+  -- the first members of a chain
+  pub shorter : {U : PolynomialMatrix p n} {Ks : List (PolynomialMatrix p n)} {t : ℕ} → IsChain p n U Ks (suc t) → IsChain p n U Ks t
+  shorter C = record { fits = λ s b. C.fits s (omega arith); step = λ s b. C.step s (omega arith) }
+
   module _ (g : ℕ) {U : PolynomialMatrix p n} {Ks : List (PolynomialMatrix p n)} {t : ℕ} (shape : HasShape p n g g U) (C : IsChain p n U Ks t) where
-    pub member_fits : (s : ℕ) → s ≤ t + 1 → HasShape p n g (columns_of p n Ks s) (matrix_at p n Ks s)
+    pub member_fits : (s : ℕ) → s ≤ t → HasShape p n g (columns_of p n Ks s) (matrix_at p n Ks s)
     member_fits s b = subst (λ x. HasShape p n x (columns_of p n Ks s) (matrix_at p n Ks s)) (shape_columns g g U shape) (C.fits s b)
 
-    pub step_read : (s : ℕ) → s < suc t
+    pub step_read : (s : ℕ) → s < t
         → Generates (matrices p n) (member g Ks (suc s)) (read (polynomials p n) g g U) (each (polynomials p n) (frobenius_twist p n 1) (member g Ks s))
     step_read s b =
         let f = member_fits s (omega arith) in
-        let h = member_fits (suc s) (omega arith) in
+        let h = member_fits (suc s) b in
         let k = columns_of p n Ks s in
         subst (λ X. Generates (matrices p n) (member g Ks (suc s)) (read (polynomials p n) g g U) X) (twist_read 1 g k (matrix_at p n Ks s) f)
-        (preimage_from g g k (columns_of p n Ks (suc s)) (matrix_at p n Ks (suc s)) U (matrix_twist p n 1 (matrix_at p n Ks s)) shape (twist_fits 1 g k (matrix_at p n Ks s) f) h (C.step s (omega arith)))
+        (preimage_from g g k (columns_of p n Ks (suc s)) (matrix_at p n Ks (suc s)) U (matrix_twist p n 1 (matrix_at p n Ks s)) shape (twist_fits 1 g k (matrix_at p n Ks s) f) h (C.step s b))
 
-    module _ (begins : InImage (matrices p n) (each (polynomials p n) (frobenius_twist p n 1) (member g Ks zero)) (mul (polynomials p n) (read (polynomials p n) g g U) (member g Ks zero))) where
-      pub same_members : SameImage (matrices p n) (member g Ks t) (member g Ks (suc t))
-      same_members v =
-          let f = member_fits t (omega arith) in
-          let h = member_fits (suc t) (omega arith) in (
-            rising_to matrices_laws t begins step_read t (omega arith) v,
-            columns_within matrices_laws (member g Ks t) (member g Ks (suc t)) ((columns_from g (columns_of p n Ks t) (columns_of p n Ks (suc t)) (matrix_at p n Ks t) (matrix_at p n Ks (suc t)) f h).0 C.repeats) v,
-          )
+    -- the chain goes on with K_t
+    pub chain_read : InImage (matrices p n) (each (polynomials p n) (frobenius_twist p n 1) (member g Ks zero)) (mul (polynomials p n) (read (polynomials p n) g g U) (member g Ks zero))
+        → Generates (matrices p n) (member g Ks t) (read (polynomials p n) g g U) (each (polynomials p n) (frobenius_twist p n 1) (member g Ks t))
+        → Chain (matrices p n) g (read (polynomials p n) g g U) (λ s. columns_of p n Ks (min s t)) (λ s. member g Ks (min s t))
+    chain_read begins last = continued matrices_laws t begins step_read last
 
-      -- the chain goes on with K_t
-      pub chain_read : Chain (matrices p n) g (read (polynomials p n) g g U) (λ s. columns_of p n Ks (min s t)) (λ s. member g Ks (min s t))
-      chain_read = continued matrices_laws t same_members begins step_read
+  -- from K_t on the continued chain is constant
+  pub last_same : (g : ℕ) (Ks : List (PolynomialMatrix p n)) (t : ℕ) → SameImage (matrices p n) (member g Ks (min t t)) (member g Ks (min (suc t) t))
+  last_same g Ks t =
+      let a : t ≡ min t t = omega arith in
+      let b : t ≡ min (suc t) t = omega arith in
+      subst (λ x. SameImage (matrices p n) (member g Ks (min t t)) (member g Ks x)) b (subst (λ x. SameImage (matrices p n) (member g Ks x) (member g Ks t)) a (λ v. (λ h. h, λ h. h)))
 
-      pub last_same : SameImage (matrices p n) (member g Ks (min t t)) (member g Ks (min (suc t) t))
-      last_same =
-          let a : t ≡ min t t = omega arith in
-          let b : t ≡ min (suc t) t = omega arith in
-          subst (λ x. SameImage (matrices p n) (member g Ks (min t t)) (member g Ks x)) b (subst (λ x. SameImage (matrices p n) (member g Ks x) (member g Ks t)) a (λ v. (λ h. h, λ h. h)))
+  module _ (g : ℕ) {U : PolynomialMatrix p n} {Ks : List (PolynomialMatrix p n)} {t : ℕ} (shape : HasShape p n g g U) (C : IsChain p n U Ks (suc t)) (repeats : ColumnsInImage p n (matrix_at p n Ks t) (matrix_at p n Ks (suc t))) (begins : InImage (matrices p n) (each (polynomials p n) (frobenius_twist p n 1) (member g Ks zero)) (mul (polynomials p n) (read (polynomials p n) g g U) (member g Ks zero))) where
+    pub same_members : SameImage (matrices p n) (member g Ks t) (member g Ks (suc t))
+    same_members v =
+        let f = member_fits g shape C t (omega arith) in
+        let h = member_fits g shape C (suc t) (omega arith) in (
+          rising_to matrices_laws t begins (step_read g shape C) t (omega arith) v,
+          columns_within matrices_laws (member g Ks t) (member g Ks (suc t)) ((columns_from g (columns_of p n Ks t) (columns_of p n Ks (suc t)) (matrix_at p n Ks t) (matrix_at p n Ks (suc t)) f h).0 repeats) v,
+        )
+
+    -- a chain through its repeat
+    pub repeat_read : Chain (matrices p n) g (read (polynomials p n) g g U) (λ s. columns_of p n Ks (min s t)) (λ s. member g Ks (min s t))
+    repeat_read =
+        chain_read g shape (shorter C) begins (last_repeats matrices_laws (member g Ks t) (member g Ks (suc t)) (step_read g shape C t (omega arith)) same_members)
 
   -- ---- the facts of a degree
   module _ {i : ℕ} {I : ResolvedIdeal p n} {Z U : PolynomialMatrix p n} {Ks : List (PolynomialMatrix p n)} {t : ℕ} (X : DegreeFacts p n i I Z U Ks t) where
@@ -237,8 +249,8 @@ module _ (p : Prime) (n : ℕ) where
       Z = read (polynomials p n) (length_in p n i I) (length Z.columns) Z;
       U = read (polynomials p n) (length Z.columns) (length Z.columns) U;
       K = λ s. member (length Z.columns) Ks (min s t);
-      chain = chain_read (length Z.columns) (X.ext).morphism_fits X.chain facts_begin;
+      chain = repeat_read (length Z.columns) (X.ext).morphism_fits X.chain X.repeats facts_begin;
       ext = facts_ext;
       t = t;
-      same = last_same (length Z.columns) (X.ext).morphism_fits X.chain facts_begin;
+      same = last_same (length Z.columns) Ks t;
     }

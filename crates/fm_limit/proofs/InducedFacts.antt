@@ -11,11 +11,11 @@ use Rattle.fm_algebra.proofs.ListImages.{through, turned}
 use Rattle.fm_limit.specs.ResolvedIdeal.{ResolvedIdeal, matrix_at, columns_of, rank}
 use Rattle.fm_limit.specs.Classes.{matrices, degree_in, length_in, theta_of, lambda_of, lambda_in, complex_of, IsZeroMap, IsOneToOneMap, IsOntoMap, IsOntoAfter}
 use Rattle.fm_limit.specs.Facts.{ColumnsInImage, IsEverything, DegreeFacts, MapFacts, JoinFacts}
-use Rattle.fm_limit.proofs.Chains.{Chain}
+use Rattle.fm_limit.proofs.Chains.{Chain, rising_to, last_repeats, last_everything}
 use Rattle.fm_limit.proofs.Maps.{Maps}
 use Rattle.fm_limit.proofs.Homotopy.{lift_maps}
 use Rattle.fm_limit.proofs.Induced.{J, zero_map, one_map, one_columns, begins_same, onto_by, onto_map}
-use Rattle.fm_limit.proofs.FactsRead.{matrices_laws, matrices_flat, resolution_read, frobenius_read, identity_read, product_read, transpose_read, transpose_fits, preimage_from, columns_from, member, member_fits, chain_read, last_same, moves_read, facts_read}
+use Rattle.fm_limit.proofs.FactsRead.{matrices_laws, matrices_flat, resolution_read, frobenius_read, identity_read, product_read, transpose_read, transpose_fits, preimage_from, columns_from, member, member_fits, step_read, shorter, same_members, chain_read, last_same, moves_read, facts_read}
 use Rattle.fm_limit.proofs.Waist.{everything_read}
 use Rattle.fm_limit.proofs.ColonFacts.{same_from}
 
@@ -68,7 +68,7 @@ module _ (p : Prime) (n : ℕ) where
     source_fits : HasShape p n gS (columns_of p n KS s) (matrix_at p n KS s)
     source_fits = member_fits p n gS (X.ext).morphism_fits X.chain s (omega arith)
 
-    target_fits : (r : ℕ) → r ≤ t + 1 → HasShape p n gT (columns_of p n KT r) (matrix_at p n KT r)
+    target_fits : (r : ℕ) → r ≤ suc t → HasShape p n gT (columns_of p n KT r) (matrix_at p n KT r)
     target_fits r b = member_fits p n gT (Y.ext).morphism_fits Y.chain r b
 
     -- the induced map is zero exactly if the columns of Phi lie in the stable kernel of the target
@@ -108,29 +108,67 @@ module _ (p : Prime) (n : ℕ) where
       join_begins =
           begins_same (matrices_laws p n) (matrices_flat p n) lambda (moves_read p n X.resolved) (moves_read p n Y.resolved) maps_read (facts_read p n X) (facts_read p n Y) phi square_read (member p n gT Ws zero) join_same
 
-      join_chain : Chain (matrices p n) gT (read (polynomials p n) gT gT UT) (λ k. columns_of p n Ws (min k r)) (λ k. member p n gT Ws (min k r))
-      join_chain = chain_read p n gT (Y.ext).morphism_fits W.chain join_begins
+      join_fits : (k : ℕ) → k ≤ r → HasShape p n gT (columns_of p n Ws k) (matrix_at p n Ws k)
+      join_fits k b = member_fits p n gT (Y.ext).morphism_fits W.chain k b
 
       join_start : SameImage (matrices p n) (member p n gT Ws (min zero r)) (J (matrices_laws p n) (matrices_flat p n) lambda (moves_read p n X.resolved) (moves_read p n Y.resolved) maps_read (facts_read p n X) (facts_read p n Y) phi square_read)
       join_start =
           let q : zero ≡ min zero r = omega arith in
           subst (λ x. SameImage (matrices p n) (member p n gT Ws x) (J (matrices_laws p n) (matrices_flat p n) lambda (moves_read p n X.resolved) (moves_read p n Y.resolved) maps_read (facts_read p n X) (facts_read p n Y) phi square_read)) q join_same
 
-      join_fits : (k : ℕ) → k ≤ r + 1 → HasShape p n gT (columns_of p n Ws k) (matrix_at p n Ws k)
-      join_fits k b = member_fits p n gT (Y.ext).morphism_fits W.chain k b
+      -- the members of the chain rise
+      join_rises : (k m : ℕ) → k + m ≤ r → IsEverything p n (matrix_at p n Ws k) → IsEverything p n (matrix_at p n Ws (k + m))
+      join_rises k zero b h = let q : k ≡ k + zero = omega arith in subst (λ x. IsEverything p n (matrix_at p n Ws x)) q h
+      join_rises k (suc m) b h =
+          let q : suc (k + m) ≡ k + suc m = omega arith in
+          let c : k + m < r = omega arith in
+          let fk = join_fits (k + m) (omega arith) in
+          let fs = join_fits (suc (k + m)) (omega arith) in
+          let before : Everything (matrices p n) (member p n gT Ws (k + m)) = (everything_read p n gT (columns_of p n Ws (k + m)) (matrix_at p n Ws (k + m)) fk).0 (join_rises k m (omega arith) h) in
+          let after : Everything (matrices p n) (member p n gT Ws (suc (k + m))) = λ v. rising_to (matrices_laws p n) (k + m) join_begins (λ j d. step_read p n gT (Y.ext).morphism_fits W.chain j (omega arith)) (k + m) (omega arith) v (before v) in
+          subst (λ x. IsEverything p n (matrix_at p n Ws x)) q ((everything_read p n gT (columns_of p n Ws (suc (k + m))) (matrix_at p n Ws (suc (k + m))) fs).1 after)
 
-      -- k moves take all classes of stage 0 to images plus coboundaries exactly if W_k is everything
+      module _ (last : Generates (matrices p n) (member p n gT Ws r) (read (polynomials p n) gT gT UT) (each (polynomials p n) (frobenius_twist p n 1) (member p n gT Ws r))) where
+        join_chain : Chain (matrices p n) gT (read (polynomials p n) gT gT UT) (λ k. columns_of p n Ws (min k r)) (λ k. member p n gT Ws (min k r))
+        join_chain = chain_read p n gT (Y.ext).morphism_fits W.chain join_begins last
+
+        -- k moves take all classes of stage 0 to images plus coboundaries exactly if W_k is everything
+        after_exactly : (k : ℕ) → k ≤ r → IsEverything p n (matrix_at p n Ws k) ↔ IsOntoAfter p n i source target ls k
+        unfolding IsOntoAfter
+        after_exactly k b =
+            let q : min k r ≡ k = omega arith in
+            let h = onto_by (matrices_laws p n) (matrices_flat p n) lambda (moves_read p n X.resolved) (moves_read p n Y.resolved) maps_read (facts_read p n X) (facts_read p n Y) phi square_read join_chain join_start k in
+            through (everything_read p n gT (columns_of p n Ws k) (matrix_at p n Ws k) (join_fits k b)) (turned (subst (λ x. IsOntoAfter p n i source target ls k ↔ Everything (matrices p n) (member p n gT Ws x)) q h))
+
+        -- the induced map is onto exactly if the constant member is everything
+        onto_exactly : IsEverything p n (matrix_at p n Ws r) ↔ IsOntoMap p n i source target ls
+        unfolding IsOntoMap
+        onto_exactly =
+            let q : min r r ≡ r = omega arith in
+            let h = onto_map (matrices_laws p n) (matrices_flat p n) lambda (moves_read p n X.resolved) (moves_read p n Y.resolved) maps_read (facts_read p n X) (facts_read p n Y) phi square_read join_chain join_start r (last_same p n gT Ws r) in
+            through (everything_read p n gT (columns_of p n Ws r) (matrix_at p n Ws r) (join_fits r (omega arith))) (turned (subst (λ x. IsOntoMap p n i source target ls ↔ Everything (matrices p n) (member p n gT Ws x)) q h))
+
+      -- where W_r is everything, the map is onto, and the least such r is the least number of moves
+      pub onto_yes_fact : IsEverything p n (matrix_at p n Ws r) → IsOntoMap p n i source target ls × ((k : ℕ) → k ≤ r → IsEverything p n (matrix_at p n Ws k) ↔ IsOntoAfter p n i source target ls k)
+      onto_yes_fact e =
+          let f : Everything (matrices p n) (member p n gT Ws r) = (everything_read p n gT (columns_of p n Ws r) (matrix_at p n Ws r) (join_fits r (omega arith))).0 e in
+          let last = last_everything (matrices_laws p n) (member p n gT Ws r) f in
+          ((onto_exactly last).0 e, after_exactly last)
+
+      pub everything_rises : (k m : ℕ) → k + m ≤ r → IsEverything p n (matrix_at p n Ws k) → IsEverything p n (matrix_at p n Ws (k + m))
+      everything_rises = join_rises
+
+    -- where the chain repeats, the map is onto exactly if the constant member is everything; the same of each number of moves
+    module _ {Ws : List (PolynomialMatrix p n)} {r : ℕ} (W : JoinFacts p n (matrix_at p n KT 0) Phi UT Ws (suc r)) (repeats : ColumnsInImage p n (matrix_at p n Ws r) (matrix_at p n Ws (suc r))) where
+      short : JoinFacts p n (matrix_at p n KT 0) Phi UT Ws r
+      short = record { begins = W.begins; chain = shorter p n W.chain }
+
+      last_step : Generates (matrices p n) (member p n gT Ws r) (read (polynomials p n) gT gT UT) (each (polynomials p n) (frobenius_twist p n 1) (member p n gT Ws r))
+      last_step =
+          last_repeats (matrices_laws p n) (member p n gT Ws r) (member p n gT Ws (suc r)) (step_read p n gT (Y.ext).morphism_fits W.chain r (omega arith)) (same_members p n gT (Y.ext).morphism_fits W.chain repeats (join_begins short))
+
+      pub onto_repeat_fact : IsEverything p n (matrix_at p n Ws r) ↔ IsOntoMap p n i source target ls
+      onto_repeat_fact = onto_exactly short last_step
+
       pub onto_after_fact : (k : ℕ) → k ≤ r → IsEverything p n (matrix_at p n Ws k) ↔ IsOntoAfter p n i source target ls k
-      unfolding IsOntoAfter
-      onto_after_fact k b =
-          let q : min k r ≡ k = omega arith in
-          let h = onto_by (matrices_laws p n) (matrices_flat p n) lambda (moves_read p n X.resolved) (moves_read p n Y.resolved) maps_read (facts_read p n X) (facts_read p n Y) phi square_read join_chain join_start k in
-          through (everything_read p n gT (columns_of p n Ws k) (matrix_at p n Ws k) (join_fits k (omega arith))) (turned (subst (λ x. IsOntoAfter p n i source target ls k ↔ Everything (matrices p n) (member p n gT Ws x)) q h))
-
-      -- the induced map is onto exactly if the constant member is everything
-      pub onto_map_fact : IsEverything p n (matrix_at p n Ws r) ↔ IsOntoMap p n i source target ls
-      unfolding IsOntoMap
-      onto_map_fact =
-          let q : min r r ≡ r = omega arith in
-          let h = onto_map (matrices_laws p n) (matrices_flat p n) lambda (moves_read p n X.resolved) (moves_read p n Y.resolved) maps_read (facts_read p n X) (facts_read p n Y) phi square_read join_chain join_start r (last_same p n gT (Y.ext).morphism_fits W.chain join_begins) in
-          through (everything_read p n gT (columns_of p n Ws r) (matrix_at p n Ws r) (join_fits r (omega arith))) (turned (subst (λ x. IsOntoMap p n i source target ls ↔ Everything (matrices p n) (member p n gT Ws x)) q h))
+      onto_after_fact = after_exactly short last_step

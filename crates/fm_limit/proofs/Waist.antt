@@ -114,7 +114,7 @@ module _ (p : Prime) (n : ℕ) where
         ∙ sym (vector_apply (polynomials p n) (length_in p n i I) g (matrix_twist p n e Z) w s.0 s.1)
         ∙ ap (vector_in p n i I) c.1
 
-    twist_member : (e s : ℕ) (w : List (Polynomial p n)) → s ≤ t + 1 → length w ≡ g
+    twist_member : (e s : ℕ) (w : List (Polynomial p n)) → s ≤ suc t → length w ≡ g
         → words.InImage p n (matrix_twist p n e (matrix_at p n Ks s)) w ↔ InImage (matrices p n) (each (polynomials p n) (frobenius_twist p n e) (member p n g Ks s)) (vector (polynomials p n) g w)
     twist_member e s w b l =
         let f = member_fits p n g (X.ext).morphism_fits X.chain s b in

@@ -24,22 +24,22 @@ module _ (p : Prime) (n : ℕ) where
     pub relations : GeneratesPreimage p n N Z (matrix_transpose p n (differential p n I.differentials i))
     pub morphism : matrix_product p n (matrix_transpose p n (matrix_at p n I.lift i)) Z ≡ matrix_product p n (matrix_twist p n 1 Z) U
 
-  -- K_0 .. K_(t+1) is a chain of U, and the columns of K_(t+1) lie in im K_t: each K_(s+1) generates all w with U * w in im K_s^[p].
+  -- K_0 .. K_t is a chain of U: each K_(s+1) generates all w with U * w in im K_s^[p].
   pub record IsChain (U : PolynomialMatrix p n) (Ks : List (PolynomialMatrix p n)) (t : ℕ) : Type 0 where
-    pub fits : (s : ℕ) → s ≤ t + 1 → HasShape p n (length U.columns) (length (matrix_at p n Ks s).columns) (matrix_at p n Ks s)
-    pub step : (s : ℕ) → s ≤ t → GeneratesPreimage p n (matrix_at p n Ks (suc s)) U (matrix_twist p n 1 (matrix_at p n Ks s))
-    pub repeats : ColumnsInImage (matrix_at p n Ks t) (matrix_at p n Ks (suc t))
+    pub fits : (s : ℕ) → s ≤ t → HasShape p n (length U.columns) (length (matrix_at p n Ks s).columns) (matrix_at p n Ks s)
+    pub step : (s : ℕ) → s < t → GeneratesPreimage p n (matrix_at p n Ks (suc s)) U (matrix_twist p n 1 (matrix_at p n Ks s))
 
   -- no member of the chain before K_t has the columns of the next
   abbrev pub IsFirstRepeat : List (PolynomialMatrix p n) → ℕ → Type 0
   IsFirstRepeat Ks t = (s : ℕ) → s < t → ColumnsInImage (matrix_at p n Ks s) (matrix_at p n Ks (suc s)) → ⊥
 
   -- The facts of one degree: a resolution with its lift, Ext with its generating morphism, and the chain that begins with the
-  -- relations, through its repeat at t.
+  -- relations, through its repeat: the columns of K_(t+1) lie in im K_t.
   pub record DegreeFacts (i : ℕ) (I : ResolvedIdeal p n) (Z U : PolynomialMatrix p n) (Ks : List (PolynomialMatrix p n)) (t : ℕ) : Type 0 where
     pub resolved : IsResolved p n i I
     pub ext : PresentsExt i I Z (matrix_at p n Ks 0) U
-    pub chain : IsChain U Ks t
+    pub chain : IsChain U Ks (suc t)
+    pub repeats : ColumnsInImage (matrix_at p n Ks t) (matrix_at p n Ks (suc t))
 
   -- The facts of an inclusion of the ideal I in the ideal J: a lift of the identity, and its matrix Phi in the coordinates of both.
   pub record MapFacts (i : ℕ) (J I : ResolvedIdeal p n) (ls : List (PolynomialMatrix p n)) (ZJ ZI Phi : PolynomialMatrix p n) : Type 0 where
@@ -47,7 +47,7 @@ module _ (p : Prime) (n : ℕ) where
     pub fits : HasShape p n (length ZI.columns) (length ZJ.columns) Phi
     pub square : matrix_product p n (matrix_transpose p n (matrix_at p n ls i)) ZJ ≡ matrix_product p n ZI Phi
 
-  -- The chain of U that begins with a matrix of the image of [N | Phi], through its repeat at t.
+  -- A chain W_0 .. W_t of U that begins with a matrix of the image of [N | Phi].
   pub record JoinFacts (N Phi U : PolynomialMatrix p n) (Ws : List (PolynomialMatrix p n)) (t : ℕ) : Type 0 where
     pub begins : (v : List (Polynomial p n)) → InImage p n (matrix_at p n Ws 0) v ↔ InImage p n (matrix_beside p n N Phi) v
     pub chain : IsChain U Ws t
