@@ -11,12 +11,12 @@ use Rattle.fm_algebra.proofs.Images.{within_columns, columns_within}
 use Rattle.fm_algebra.proofs.ListImages.{through, turned}
 use Rattle.fm_limit.specs.ResolvedIdeal.{ResolvedIdeal, matrix_at, columns_of}
 use Rattle.fm_limit.specs.Classes.{matrices, length_in, vector_in, IsClass, VanishesAfterInverting}
-use Rattle.fm_limit.specs.Facts.{ColumnsInImage, IsEverything, DegreeFacts, IsColons}
+use Rattle.fm_limit.specs.Facts.{ColumnsInImage, IsEverything, AreCoordinates, DegreeFacts, IsColons}
 use Rattle.fm_limit.proofs.Moves.{coords}
 use Rattle.fm_limit.proofs.Vanishing.{colon_everything, colon_rises, colon_never}
 use Rattle.fm_limit.proofs.Reading.{same_read}
 use Rattle.fm_limit.proofs.FactsRead.{matrices_laws, matrices_flat, preimage_from, columns_from, member, moves_read, facts_read, twist_read, twist_fits}
-use Rattle.fm_limit.proofs.Waist.{everything_read, scalar_columns_read, scalar_fits, scalar_read, powers, shape_rows, vanishes_fact, AreCoordinates}
+use Rattle.fm_limit.proofs.Waist.{everything_read, scalar_columns_read, scalar_fits, scalar_read, powers, shape_rows, vanishes_fact}
 
 module _ (p : Prime) (n : ℕ) where
   -- two matrices of lists with one image
@@ -63,7 +63,7 @@ module _ (p : Prime) (n : ℕ) where
 
   module _ {i : ℕ} {I : ResolvedIdeal p n} {Z U : PolynomialMatrix p n} {Ks : List (PolynomialMatrix p n)} {t : ℕ} (X : DegreeFacts p n i I Z U Ks t) where
     -- every class has coordinates
-    pub coordinates_fact : (e : ℕ) (z : List (Polynomial p n)) → IsClass p n i I e z → (w : List (Polynomial p n)) × AreCoordinates p n X e z w
+    pub coordinates_fact : (e : ℕ) (z : List (Polynomial p n)) → IsClass p n i I e z → (w : List (Polynomial p n)) × AreCoordinates p n Z e z w
     unfolding vector_product HasShape
     coordinates_fact e z c =
         let g = length Z.columns in

@@ -60,12 +60,12 @@ module _ (p : Prime) (n : ℕ) where
   unfolding InIdeal words.InImage InKernel
   resolution_read {gens} {i} {ds} r = record {
     generators =
-      let s = fits_at r zero (omega arith) in
-      same_read (polynomials p n) (frobenius_twist p n) 1 (columns_of p n ds zero) (length gens) (matrix_at p n ds zero) (row p n gens) s.0 refl (row_shaped gens).0 (row_shaped gens).1 (one_entry (InListImage (polynomials p n) (matrix_at p n ds zero)) (InListImage (polynomials p n) (row p n gens)) r.first);
+        let s = fits_at r zero (omega arith) in
+        same_read (polynomials p n) (frobenius_twist p n) 1 (columns_of p n ds zero) (length gens) (matrix_at p n ds zero) (row p n gens) s.0 refl (row_shaped gens).0 (row_shaped gens).1 (one_entry (InListImage (polynomials p n) (matrix_at p n ds zero)) (InListImage (polynomials p n) (row p n gens)) r.first);
     exact = λ j b.
-      let s = fits_at r j (omega arith) in
-      let t = fits_at r (suc j) (omega arith) in
-      generates_kernel_read (polynomials p n) (frobenius_twist p n) (rank p n ds j) (columns_of p n ds j) (columns_of p n ds (suc j)) (matrix_at p n ds (suc j)) (matrix_at p n ds j) s.0 refl t.0 refl (r.exact j b);
+        let s = fits_at r j (omega arith) in
+        let t = fits_at r (suc j) (omega arith) in
+        generates_kernel_read (polynomials p n) (frobenius_twist p n) (rank p n ds j) (columns_of p n ds j) (columns_of p n ds (suc j)) (matrix_at p n ds (suc j)) (matrix_at p n ds j) s.0 refl t.0 refl (r.exact j b);
   }
 
   -- a product of matrices of lists, read
@@ -101,13 +101,13 @@ module _ (p : Prime) (n : ℕ) where
   frobenius_read {gens} {i} {ds} {ts} r f = record {
     first = ap (read (polynomials p n) 1 1) f.first ∙ unit_read 1;
     square = λ j b.
-      let c = f.count in
-      let e = r.count in
-      let d = r.fits j (omega arith) in
-      sym (product_read (rank p n ds j) (columns_of p n ds j) (columns_of p n ds j) (matrix_at p n ds j) (matrix_at p n ts (suc j)) d (f.fits (suc j) (omega arith)))
-      ∙ ap (read (polynomials p n) (rank p n ds j) (columns_of p n ds j)) (f.square j b)
-      ∙ product_read (rank p n ds j) (rank p n ds j) (columns_of p n ds j) (matrix_at p n ts j) (matrix_twist p n 1 (matrix_at p n ds j)) (f.fits j (omega arith)) (twist_fits 1 (rank p n ds j) (columns_of p n ds j) (matrix_at p n ds j) d)
-      ∙ ap (λ X. mul (polynomials p n) (read (polynomials p n) (rank p n ds j) (rank p n ds j) (matrix_at p n ts j)) X) (twist_read 1 (rank p n ds j) (columns_of p n ds j) (matrix_at p n ds j) d);
+        let c = f.count in
+        let e = r.count in
+        let d = r.fits j (omega arith) in
+        sym (product_read (rank p n ds j) (columns_of p n ds j) (columns_of p n ds j) (matrix_at p n ds j) (matrix_at p n ts (suc j)) d (f.fits (suc j) (omega arith)))
+        ∙ ap (read (polynomials p n) (rank p n ds j) (columns_of p n ds j)) (f.square j b)
+        ∙ product_read (rank p n ds j) (rank p n ds j) (columns_of p n ds j) (matrix_at p n ts j) (matrix_twist p n 1 (matrix_at p n ds j)) (f.fits j (omega arith)) (twist_fits 1 (rank p n ds j) (columns_of p n ds j) (matrix_at p n ds j) d)
+        ∙ ap (λ X. mul (polynomials p n) (read (polynomials p n) (rank p n ds j) (rank p n ds j) (matrix_at p n ts j)) X) (twist_read 1 (rank p n ds j) (columns_of p n ds j) (matrix_at p n ds j) d);
   }
 
   pub identity_read : {f g : List (Polynomial p n)} {i : ℕ} {ds us ls : List (PolynomialMatrix p n)} → IsResolutionOf p n f i ds → IsResolutionOf p n g i us → IsLiftOfIdentityOf p n i ds us ls
@@ -115,12 +115,12 @@ module _ (p : Prime) (n : ℕ) where
   identity_read {f} {g} {i} {ds} {us} {ls} r s l = record {
     first = ap (read (polynomials p n) 1 1) l.first ∙ unit_read 1;
     square = λ j b.
-      let c = l.count in
-      let e = r.count in
-      let k = s.count in
-      sym (product_read (rank p n us j) (columns_of p n us j) (columns_of p n ds j) (matrix_at p n us j) (matrix_at p n ls (suc j)) (s.fits j (omega arith)) (l.fits (suc j) (omega arith)))
-      ∙ ap (read (polynomials p n) (rank p n us j) (columns_of p n ds j)) (l.square j b)
-      ∙ product_read (rank p n us j) (rank p n ds j) (columns_of p n ds j) (matrix_at p n ls j) (matrix_at p n ds j) (l.fits j (omega arith)) (r.fits j (omega arith));
+        let c = l.count in
+        let e = r.count in
+        let k = s.count in
+        sym (product_read (rank p n us j) (columns_of p n us j) (columns_of p n ds j) (matrix_at p n us j) (matrix_at p n ls (suc j)) (s.fits j (omega arith)) (l.fits (suc j) (omega arith)))
+        ∙ ap (read (polynomials p n) (rank p n us j) (columns_of p n ds j)) (l.square j b)
+        ∙ product_read (rank p n us j) (rank p n ds j) (columns_of p n ds j) (matrix_at p n ls j) (matrix_at p n ds j) (l.fits j (omega arith)) (r.fits j (omega arith));
   }
 
   -- what moves rest on

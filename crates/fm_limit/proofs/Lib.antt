@@ -12,3 +12,5 @@ pub mod FactsRead
 pub mod Waist
 pub mod ColonFacts
 pub mod InducedFacts
+pub mod VerdictLaws
+pub mod StageWords

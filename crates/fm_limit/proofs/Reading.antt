@@ -55,6 +55,6 @@ module _ (R : Ring) (twist : ℕ → R.Carrier → R.Carrier) where
     columns_read m n k A B p q b = (
       λ f. image_columns (families_laws L F) (read R m n A) (read R m k B) (λ c h. subst (λ x. InImage (families R twist) (read R m n A) x) (sym (column_read m k B c h)) ((list_image R twist m n A (get_or B.columns c []) p q (b.2 c h)).0 (f c (subst (λ x. c < x) (sym b.1) h)))),
       λ h c i.
-        let j : c < k = subst (λ x. c < x) b.1 i in
-        (list_image R twist m n A (get_or B.columns c []) p q (b.2 c j)).1 (subst (λ x. InImage (families R twist) (read R m n A) x) (column_read m k B c j) (image_mul (families_laws L F) (read R m n A) (read R m k B) (basis R k c j) h)),
+          let j : c < k = subst (λ x. c < x) b.1 i in
+          (list_image R twist m n A (get_or B.columns c []) p q (b.2 c j)).1 (subst (λ x. InImage (families R twist) (read R m n A) x) (column_read m k B c j) (image_mul (families_laws L F) (read R m n A) (read R m k B) (basis R k c j) h)),
     )

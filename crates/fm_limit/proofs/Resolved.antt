@@ -238,8 +238,7 @@ module _ {M : Matrices} (L : IsMatrices M) (p : ℕ) (positive : zero < p) (powe
         let r = f y (carried_class A A2 up_back.0 up_back.1 aa zero z c) in
         let q : s ≡ zero + s = omega arith in
         let n : zero + s ≡ s + zero = omega arith in
-        let h = carried_same s zero zero z c s r.0 r.1 (n, subst (λ e. IsCoboundary M (degree_of A) e (moved M (degree_of A) s zero y ⊕ neg (carried A B k s r.0))) q r.2) in
-        (
+        let h = carried_same s zero zero z c s r.0 r.1 (n, subst (λ e. IsCoboundary M (degree_of A) e (moved M (degree_of A) s zero y ⊕ neg (carried A B k s r.0))) q r.2) in (
           carried B2 B down_back.0 s r.0,
           carried_class B2 B down_back.0 down_back.1 b2 s r.0 r.1,
           subst (λ e. IsCoboundary M (degree_of A2) e (moved M (degree_of A2) s zero z ⊕ neg (carried A2 B2 k2 s (carried B2 B down_back.0 s r.0)))) (sym q) h.1,

@@ -17,10 +17,10 @@ use Rattle.fm_limit.specs.DirectSystem.{IsKilledBy, IsZeroInLimit}
 use Rattle.fm_limit.specs.ResolvedIdeal.{ResolvedIdeal, matrix_at, columns_of, rank, row, InIdeal}
 use Rattle.fm_limit.specs.Limit.{IsRoot}
 use Rattle.fm_limit.specs.Classes.{matrices, degree_in, length_in, vector_in, IsClass, IsCoboundaryAfter, IsZeroClass, IsZeroLimit, VanishesAfterInverting, AnnihilatesClasses, IsEnoughMoves, IsRootOf, IsSupportIdealOf}
-use Rattle.fm_limit.specs.Facts.{ColumnsInImage, IsEverything, IsFirstRepeat, DegreeFacts, IsColons}
+use Rattle.fm_limit.specs.Facts.{ColumnsInImage, IsEverything, IsFirstRepeat, AreCoordinates, DegreeFacts, IsColons}
 use Rattle.fm_limit.specs.Verdicts.{IsLeast}
 use Rattle.fm_limit.proofs.Moves.{coords, killed_exactly, zero_exactly, is_root, zero_limit}
-use Rattle.fm_limit.proofs.Vanishing.{stable_least, annihilates_exactly, vanishes_exactly, support_exactly, colon_exact, colon_everything, colon_never}
+use Rattle.fm_limit.proofs.Vanishing.{stable_least, annihilates_exactly, vanishes_exactly, support_exactly, scalar_more}
 use Rattle.fm_limit.proofs.FactsRead.{matrices_laws, matrices_flat, matrices_power, row_fits, unit_read, twist_read, twist_fits, preimage_from, columns_from, member, member_fits, moves_read, facts_read}
 
 module _ (p : Prime) (n : ℕ) where
@@ -74,6 +74,10 @@ module _ (p : Prime) (n : ℕ) where
     stable_fits : HasShape p n g (columns_of p n Ks t) (matrix_at p n Ks t)
     stable_fits = member_fits p n g (X.ext).morphism_fits X.chain t (omega arith)
 
+    -- the shape of the stable kernel, by its own number of rows
+    pub stable_shape : HasShape p n S.rows (length S.columns) S
+    stable_shape = subst (λ r. HasShape p n r (columns_of p n Ks t) S) (sym (shape_rows g (columns_of p n Ks t) S stable_fits)) stable_fits
+
     min_same : min t t ≡ t
     min_same = omega arith
 
@@ -101,11 +105,7 @@ module _ (p : Prime) (n : ℕ) where
         first s b ((columns_from p n g (columns_of p n Ks s) (columns_of p n Ks (suc s)) (matrix_at p n Ks s) (matrix_at p n Ks (suc s)) fs ft).1 (within_columns (matrices_laws p n) (member p n g Ks s) (member p n g Ks (suc s)) (λ v k. (h v).1 k))))
 
     -- ---- classes
-    -- w are coordinates of the vector z at stage e
-    abbrev pub AreCoordinates : (e : ℕ) (z w : List (Polynomial p n)) → Type 0
-    AreCoordinates e z w = (length w ≡ g) × (vector_product p n (matrix_twist p n e Z) w ≡ z)
-
-    coordinates_read : (e : ℕ) (z w : List (Polynomial p n)) → AreCoordinates e z w
+    coordinates_read : (e : ℕ) (z w : List (Polynomial p n)) → AreCoordinates p n Z e z w
         → mul (polynomials p n) (each (polynomials p n) (frobenius_twist p n e) (read (polynomials p n) (length_in p n i I) g Z)) (vector (polynomials p n) g w) ≡ vector_in p n i I z
     unfolding vector_product HasShape
     coordinates_read e z w c =
@@ -122,7 +122,7 @@ module _ (p : Prime) (n : ℕ) where
         subst (λ A. words.InImage p n (matrix_twist p n e (matrix_at p n Ks s)) w ↔ InImage (matrices p n) A (vector (polynomials p n) g w)) (twist_read p n e g k (matrix_at p n Ks s) f) (vector_image g k (matrix_twist p n e (matrix_at p n Ks s)) w (twist_fits p n e g k (matrix_at p n Ks s) f) l)
 
     -- s moves kill a class exactly if its coordinates are in the image of the twist of K_s
-    pub killed_fact : (e : ℕ) (z w : List (Polynomial p n)) → AreCoordinates e z w → (s : ℕ) → s ≤ t
+    pub killed_fact : (e : ℕ) (z w : List (Polynomial p n)) → AreCoordinates p n Z e z w → (s : ℕ) → s ≤ t
         → words.InImage p n (matrix_twist p n e (matrix_at p n Ks s)) w ↔ IsCoboundaryAfter p n i I s e z
     unfolding IsCoboundaryAfter
     killed_fact e z w c s b =
@@ -131,7 +131,7 @@ module _ (p : Prime) (n : ℕ) where
         let k = subst (λ x. IsKilledBy (matrices p n) (degree_in p n i I) s e (mul (polynomials p n) (each (polynomials p n) (frobenius_twist p n e) (read (polynomials p n) (length_in p n i I) g Z)) (vector (polynomials p n) g w)) ↔ InImage (matrices p n) (each (polynomials p n) (frobenius_twist p n e) (member p n g Ks x)) (vector (polynomials p n) g w)) q h in
         through (twist_member e s w (omega arith) c.0) (turned (subst (λ x. IsKilledBy (matrices p n) (degree_in p n i I) s e x ↔ InImage (matrices p n) (each (polynomials p n) (frobenius_twist p n e) (member p n g Ks s)) (vector (polynomials p n) g w)) (coordinates_read e z w c) k))
 
-    pub zero_class_fact : (e : ℕ) (z w : List (Polynomial p n)) → AreCoordinates e z w
+    pub zero_class_fact : (e : ℕ) (z w : List (Polynomial p n)) → AreCoordinates p n Z e z w
         → words.InImage p n (matrix_twist p n e S) w ↔ IsZeroClass p n i I e z
     unfolding IsZeroClass
     zero_class_fact e z w c =
@@ -160,6 +160,10 @@ module _ (p : Prime) (n : ℕ) where
     power_columns : (f : Polynomial p n) (k : ℕ) → ColumnsInImage p n S (matrix_scalar p n (polynomial_power p n k f) S.rows) ↔ InImage (matrices p n) (member p n g Ks t) (scalar (polynomials p n) (pow (matrices p n) (element (polynomials p n) f) k) g)
     power_columns f k =
         subst (λ a. ColumnsInImage p n S (matrix_scalar p n (polynomial_power p n k f) S.rows) ↔ InImage (matrices p n) (member p n g Ks t) (scalar (polynomials p n) a g)) (powers f k) (scalar_columns_read (polynomial_power p n k f) g (columns_of p n Ks t) S stable_fits)
+
+    -- what a power does, so does a higher one
+    pub power_more : (f : Polynomial p n) (k j : ℕ) → ColumnsInImage p n S (matrix_scalar p n (polynomial_power p n k f) S.rows) → ColumnsInImage p n S (matrix_scalar p n (polynomial_power p n (k + j) f) S.rows)
+    power_more f k j h = (power_columns f (k + j)).1 (scalar_more (matrices_laws p n) (element (polynomials p n) f) (member p n g Ks t) k j ((power_columns f k).0 h))
 
     pub vanishes_fact : (f : Polynomial p n) → ((k : ℕ) × ColumnsInImage p n S (matrix_scalar p n (polynomial_power p n k f) S.rows)) ↔ VanishesAfterInverting p n i I f
     vanishes_fact f = (

@@ -4,7 +4,7 @@ use Rattle.fm_gfp.specs.declared.prime.Prime.{Prime}
 use Rattle.fm_algebra.specs.Matrices.{Matrices}
 use Rattle.fm_algebra.specs.Families.{families, read, vector, element}
 use Rattle.fm_algebra.specs.Polynomials.{Polynomial, polynomials, polynomial_power, frobenius_twist}
-use Rattle.fm_algebra.specs.PolynomialMatrices.{PolynomialMatrix}
+use Rattle.fm_algebra.specs.PolynomialMatrices.{PolynomialMatrix, matrix_transpose, matrix_twist, vector_product}
 use Rattle.fm_algebra.specs.Image as image
 use Rattle.fm_limit.specs.Resolution.{rank_of, Complex}
 use Rattle.fm_limit.specs.DirectSystem.{Degree, degree, IsCocycle, IsKilledBy, IsZeroInLimit, IsSameInLimit}
@@ -48,6 +48,10 @@ module _ (p : Prime) (n : ℕ) where
   pub record IsClass (i : ℕ) (I : ResolvedIdeal p n) (e : ℕ) (z : List (Polynomial p n)) : Type 0 where
     pub fits : length z ≡ length_in i I
     pub cocycle : IsCocycle (matrices p n) (degree_in i I) e (vector_in i I z)
+
+  -- one move of (e, z), to stage e + 1: the transpose of theta_i^[q] times z
+  unfoldable pub moved_once : (i : ℕ) (I : ResolvedIdeal p n) (e : ℕ) → List (Polynomial p n) → List (Polynomial p n)
+  moved_once i I e z = vector_product p n (matrix_transpose p n (matrix_twist p n e (matrix_at p n I.lift i))) z
 
   -- s moves make (e, z) a coboundary
   unfoldable pub IsCoboundaryAfter : (i : ℕ) (I : ResolvedIdeal p n) (s e : ℕ) → List (Polynomial p n) → Type 0

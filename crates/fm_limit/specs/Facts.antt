@@ -2,7 +2,7 @@
 use Rattle.std.specs.Prelude.{ℕ, zero, suc, ◌+◌, ◌<◌, ◌≤◌, ◌≡◌, ◌↔◌, ◌⊎◌, List, [], ◌∷◌, length, get_or}
 use Rattle.fm_gfp.specs.declared.prime.Prime.{Prime}
 use Rattle.fm_algebra.specs.Polynomials.{Polynomial}
-use Rattle.fm_algebra.specs.PolynomialMatrices.{PolynomialMatrix, HasShape, matrix_product, matrix_unit, matrix_scalar, matrix_beside, matrix_transpose, matrix_twist, InImage, GeneratesKernel, GeneratesPreimage}
+use Rattle.fm_algebra.specs.PolynomialMatrices.{PolynomialMatrix, HasShape, matrix_product, matrix_unit, matrix_scalar, vector_product, matrix_beside, matrix_transpose, matrix_twist, InImage, GeneratesKernel, GeneratesPreimage}
 use Rattle.fm_limit.specs.ResolvedIdeal.{ResolvedIdeal, matrix_at, rank, differential, IsResolved, IsLiftOfIdentityOf}
 
 module _ (p : Prime) (n : ℕ) where
@@ -40,6 +40,10 @@ module _ (p : Prime) (n : ℕ) where
     pub ext : PresentsExt i I Z (matrix_at p n Ks 0) U
     pub chain : IsChain U Ks (suc t)
     pub repeats : ColumnsInImage (matrix_at p n Ks t) (matrix_at p n Ks (suc t))
+
+  -- w are coordinates of the vector z of stage e: z = Z^[q] * w
+  abbrev pub AreCoordinates : (Z : PolynomialMatrix p n) (e : ℕ) (z w : List (Polynomial p n)) → Type 0
+  AreCoordinates Z e z w = (length w ≡ length Z.columns) × (vector_product p n (matrix_twist p n e Z) w ≡ z)
 
   -- The facts of an inclusion of the ideal I in the ideal J: a lift of the identity, and its matrix Phi in the coordinates of both.
   pub record MapFacts (i : ℕ) (J I : ResolvedIdeal p n) (ls : List (PolynomialMatrix p n)) (ZJ ZI Phi : PolynomialMatrix p n) : Type 0 where

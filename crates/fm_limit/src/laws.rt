@@ -1,1 +1,4 @@
 // The laws of the limit.
+
+pub mod stages;
+pub mod verdicts;
