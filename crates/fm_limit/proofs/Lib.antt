@@ -14,3 +14,4 @@ pub mod ColonFacts
 pub mod InducedFacts
 pub mod VerdictLaws
 pub mod StageWords
+pub mod IndependenceWords

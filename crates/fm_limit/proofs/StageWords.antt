@@ -16,10 +16,10 @@ use Rattle.fm_limit.proofs.FactsRead.{matrices_laws, moves_read, twist_read, twi
 
 module _ (p : Prime) (n : ℕ) where
   -- the transpose of a twist
-  dual_fits : (e a b : ℕ) (A : PolynomialMatrix p n) → HasShape p n a b A → HasShape p n b a (matrix_transpose p n (matrix_twist p n e A))
+  pub dual_fits : (e a b : ℕ) (A : PolynomialMatrix p n) → HasShape p n a b A → HasShape p n b a (matrix_transpose p n (matrix_twist p n e A))
   dual_fits e a b A s = transpose_fits p n a b (matrix_twist p n e A) (twist_fits p n e a b A s)
 
-  dual_read : (e a b : ℕ) (A : PolynomialMatrix p n) → HasShape p n a b A
+  pub dual_read : (e a b : ℕ) (A : PolynomialMatrix p n) → HasShape p n a b A
       → read (polynomials p n) b a (matrix_transpose p n (matrix_twist p n e A)) ≡ flip (polynomials p n) (each (polynomials p n) (frobenius_twist p n e) (read (polynomials p n) a b A))
   dual_read e a b A s =
       transpose_read p n a b (matrix_twist p n e A) (twist_fits p n e a b A s) ∙ ap (flip (polynomials p n) {m = a} {n = b}) (twist_read p n e a b A s)

@@ -95,6 +95,10 @@ module _ (p : Prime) (n : ℕ) where
   abbrev pub lambda_in : (i : ℕ) (J I : ResolvedIdeal p n) (ls : List (PolynomialMatrix p n)) → (matrices p n).Mat (length_in i J) (length_in i I)
   lambda_in i J I ls = lambda_of I.differentials J.differentials ls i
 
+  -- the image of (e, z): the transpose of lambda_i^[q] times z
+  unfoldable pub image_of : (i : ℕ) (ls : List (PolynomialMatrix p n)) (e : ℕ) → List (Polynomial p n) → List (Polynomial p n)
+  image_of i ls e z = vector_product p n (matrix_transpose p n (matrix_twist p n e (matrix_at p n ls i))) z
+
   -- every image is zero in the limit
   unfoldable pub IsZeroMap : (i : ℕ) (J I : ResolvedIdeal p n) → List (PolynomialMatrix p n) → Type 0
   IsZeroMap i J I ls = InducedMapIsZero (matrices p n) (degree_in i J) (degree_in i I) (lambda_in i J I ls)

@@ -37,6 +37,10 @@ module _ (p : Prime) (n : ℕ) where
   unfoldable pub InIdeal : List (Polynomial p n) → Polynomial p n → Type 0
   InIdeal fs f = InImage p n (row fs) (f ∷ [])
 
+  -- the ideal of fs lies in that of gs
+  abbrev pub LiesIn : (fs gs : List (Polynomial p n)) → Type 0
+  LiesIn fs gs = (f : Polynomial p n) → InIdeal fs f → InIdeal gs f
+
   -- ds is a resolution d_1 .. d_(i+1) of the ideal of the given generators through degree i: the entries of d_1 generate the
   -- ideal, and ker d_j = im d_(j+1) for j from 1 to i (any textbook of homological algebra).
   pub record IsResolutionOf (generators : List (Polynomial p n)) (i : ℕ) (ds : List (PolynomialMatrix p n)) : Type 0 where
