@@ -48,6 +48,32 @@ module _ (p : Prime) (n : ℕ) where
       let q : element (polynomials p n) f ≡ v = single (polynomials_laws p n) (frobenius_twist p n) (element (polynomials p n) f) v refl in
       subst (λ x. image.InImage (matrices p n) (read (polynomials p n) 1 (length J.generators) (row p n J.generators)) x) q ((member_read J.generators f).0 (w f ((member_read I.generators f).1 (subst (λ x. image.InImage (matrices p n) (read (polynomials p n) 1 (length I.generators) (row p n I.generators)) x) (sym q) h)))))
 
+  -- ---- the map that a lift of the identity induces
+  module _ {i : ℕ} {I J : ResolvedIdeal p n} {ls : List (PolynomialMatrix p n)} (r : IsResolved p n i I) (s : IsResolved p n i J) (k : IsLiftOfIdentityOf p n i I.differentials J.differentials ls) where
+    pub image_read : (e : ℕ) (z : List (Polynomial p n))
+        → vector_in p n i I (image_of p n i ls e z) ≡ mapped (matrices p n) (degree_in p n i J) (degree_in p n i I) (lambda_of p n I.differentials J.differentials ls i) e (vector_in p n i J z)
+    unfolding image_of vector_product HasShape
+    image_read e z =
+        let a = length_in p n i J in
+        let b = length_in p n i I in
+        let f = k.fits i (let c = k.count in omega arith) in
+        let d = dual_fits p n e a b (matrix_at p n ls i) f in
+        vector_apply (polynomials p n) b a (matrix_transpose p n (matrix_twist p n e (matrix_at p n ls i))) z d.0 d.1 ∙ ap (λ X. mul (polynomials p n) X (vector (polynomials p n) a z)) (dual_read p n e a b (matrix_at p n ls i) f)
+
+    image_length : (e : ℕ) (z : List (Polynomial p n)) → length (image_of p n i ls e z) ≡ length_in p n i I
+    unfolding image_of vector_product HasShape
+    image_length e z =
+        let f = k.fits i (let c = k.count in omega arith) in
+        let d = dual_fits p n e (length_in p n i J) (length_in p n i I) (matrix_at p n ls i) f in
+        length-apply (polynomials p n) (matrix_transpose p n (matrix_twist p n e (matrix_at p n ls i))) z ∙ d.0
+
+    -- where I lies in J, classes are mapped to classes
+    pub carried_class_words : LiesIn p n I.generators J.generators → (e : ℕ) (z : List (Polynomial p n)) → IsClass p n i J e z → IsClass p n i I e (image_of p n i ls e z)
+    carried_class_words ij e z c = record {
+      fits = image_length e z;
+      cocycle = subst (λ x. IsCocycle (matrices p n) (degree_in p n i I) e x) (sym (image_read e z)) (carried_class (matrices_laws p n) (prime_value p) (prime_positive p) (matrices_power p n) (resolved_read r) (resolved_read s) (lambda_of p n I.differentials J.differentials ls) (identity_read p n r.resolution s.resolution k) (inside_read r s ij) e (vector_in p n i J z) c.cocycle);
+    }
+
   -- ---- one ideal, resolved twice
   module _ {i : ℕ} {I J : ResolvedIdeal p n} (r : IsResolved p n i I) (s : IsResolved p n i J) (ij : LiesIn p n I.generators J.generators) (ji : LiesIn p n J.generators I.generators) where
     pub zero_words : IsZeroLimit p n i I ↔ IsZeroLimit p n i J
@@ -102,38 +128,15 @@ module _ (p : Prime) (n : ℕ) where
 
     -- ---- classes are carried over by lifts of the identity
     module _ {ls ms : List (PolynomialMatrix p n)} (k : IsLiftOfIdentityOf p n i I.differentials J.differentials ls) (l : IsLiftOfIdentityOf p n i J.differentials I.differentials ms) where
-      image_read : (e : ℕ) (z : List (Polynomial p n))
-          → vector_in p n i I (image_of p n i ls e z) ≡ mapped (matrices p n) (degree_in p n i J) (degree_in p n i I) (lambda_of p n I.differentials J.differentials ls i) e (vector_in p n i J z)
-      unfolding image_of vector_product HasShape
-      image_read e z =
-          let a = length_in p n i J in
-          let b = length_in p n i I in
-          let f = k.fits i (let c = k.count in omega arith) in
-          let d = dual_fits p n e a b (matrix_at p n ls i) f in
-          vector_apply (polynomials p n) b a (matrix_transpose p n (matrix_twist p n e (matrix_at p n ls i))) z d.0 d.1 ∙ ap (λ X. mul (polynomials p n) X (vector (polynomials p n) a z)) (dual_read p n e a b (matrix_at p n ls i) f)
-
-      image_length : (e : ℕ) (z : List (Polynomial p n)) → length (image_of p n i ls e z) ≡ length_in p n i I
-      unfolding image_of vector_product HasShape
-      image_length e z =
-          let f = k.fits i (let c = k.count in omega arith) in
-          let d = dual_fits p n e (length_in p n i J) (length_in p n i I) (matrix_at p n ls i) f in
-          length-apply (polynomials p n) (matrix_transpose p n (matrix_twist p n e (matrix_at p n ls i))) z ∙ d.0
-
-      pub carried_class_words : (e : ℕ) (z : List (Polynomial p n)) → IsClass p n i J e z → IsClass p n i I e (image_of p n i ls e z)
-      carried_class_words e z c = record {
-        fits = image_length e z;
-        cocycle = subst (λ x. IsCocycle (matrices p n) (degree_in p n i I) e x) (sym (image_read e z)) (carried_class (matrices_laws p n) (prime_value p) (prime_positive p) (matrices_power p n) (resolved_read r) (resolved_read s) (lambda_of p n I.differentials J.differentials ls) (identity_read p n r.resolution s.resolution k) (inside_read r s ij) e (vector_in p n i J z) c.cocycle);
-      }
-
       pub carried_killed_words : (m e : ℕ) (z : List (Polynomial p n)) → IsClass p n i J e z → IsCoboundaryAfter p n i J m e z ↔ IsCoboundaryAfter p n i I m e (image_of p n i ls e z)
       unfolding IsCoboundaryAfter
       carried_killed_words m e z c =
-          subst (λ x. IsCoboundaryAfter p n i J m e z ↔ IsKilledBy (matrices p n) (degree_in p n i I) m e x) (sym (image_read e z)) (carried_killed (matrices_laws p n) (prime_value p) (prime_positive p) (matrices_power p n) (resolved_read r) (resolved_read s) (lambda_of p n I.differentials J.differentials ls) (lambda_of p n J.differentials I.differentials ms) (identity_read p n r.resolution s.resolution k) (identity_read p n s.resolution r.resolution l) (inside_read r s ij) m e (vector_in p n i J z) c.cocycle)
+          subst (λ x. IsCoboundaryAfter p n i J m e z ↔ IsKilledBy (matrices p n) (degree_in p n i I) m e x) (sym (image_read r s k e z)) (carried_killed (matrices_laws p n) (prime_value p) (prime_positive p) (matrices_power p n) (resolved_read r) (resolved_read s) (lambda_of p n I.differentials J.differentials ls) (lambda_of p n J.differentials I.differentials ms) (identity_read p n r.resolution s.resolution k) (identity_read p n s.resolution r.resolution l) (inside_read r s ij) m e (vector_in p n i J z) c.cocycle)
 
       pub carried_zero_words : (e : ℕ) (z : List (Polynomial p n)) → IsClass p n i J e z → IsZeroClass p n i J e z ↔ IsZeroClass p n i I e (image_of p n i ls e z)
       unfolding IsZeroClass
       carried_zero_words e z c =
-          subst (λ x. IsZeroClass p n i J e z ↔ IsZeroInLimit (matrices p n) (degree_in p n i I) e x) (sym (image_read e z)) (carried_zero (matrices_laws p n) (prime_value p) (prime_positive p) (matrices_power p n) (resolved_read r) (resolved_read s) (lambda_of p n I.differentials J.differentials ls) (lambda_of p n J.differentials I.differentials ms) (identity_read p n r.resolution s.resolution k) (identity_read p n s.resolution r.resolution l) (inside_read r s ij) e (vector_in p n i J z) c.cocycle)
+          subst (λ x. IsZeroClass p n i J e z ↔ IsZeroInLimit (matrices p n) (degree_in p n i I) e x) (sym (image_read r s k e z)) (carried_zero (matrices_laws p n) (prime_value p) (prime_positive p) (matrices_power p n) (resolved_read r) (resolved_read s) (lambda_of p n I.differentials J.differentials ls) (lambda_of p n J.differentials I.differentials ms) (identity_read p n r.resolution s.resolution k) (identity_read p n s.resolution r.resolution l) (inside_read r s ij) e (vector_in p n i J z) c.cocycle)
 
       -- each class is the same in the limit as one that is carried over, at its own stage
       pub carried_onto_words : (e : ℕ) (z : List (Polynomial p n)) → IsClass p n i I e z → (z' : List (Polynomial p n)) × IsClass p n i J e z' × IsSameClass p n i I e z e (image_of p n i ls e z')
@@ -144,7 +147,7 @@ module _ (p : Prime) (n : ℕ) where
           let y : List (Polynomial p n) = list_of (polynomials p n) b h.0 in
           let q = vector_list_of (polynomials p n) b h.0 in
           let v = mapped (matrices p n) (degree_in p n i J) (degree_in p n i I) (lambda_of p n I.differentials J.differentials ls i) e h.0 in
-          let w : v ≡ vector_in p n i I (image_of p n i ls e y) = ap (mapped (matrices p n) (degree_in p n i J) (degree_in p n i I) (lambda_of p n I.differentials J.differentials ls i) e) (sym q) ∙ sym (image_read e y) in
+          let w : v ≡ vector_in p n i I (image_of p n i ls e y) = ap (mapped (matrices p n) (degree_in p n i J) (degree_in p n i I) (lambda_of p n I.differentials J.differentials ls i) e) (sym q) ∙ sym (image_read r s k e y) in
           let d : IsCoboundary (matrices p n) (degree_in p n i I) e (add (polynomials p n) (vector_in p n i I z) (neg (polynomials p n) (vector_in p n i I (image_of p n i ls e y)))) = subst (λ x. IsCoboundary (matrices p n) (degree_in p n i I) e (add (polynomials p n) (vector_in p n i I z) (neg (polynomials p n) x))) w h.2 in (
             y,
             record { fits = length-list_of (polynomials p n) b h.0; cocycle = subst (λ x. IsCocycle (matrices p n) (degree_in p n i J) e x) (sym q) h.1 },
@@ -152,23 +155,31 @@ module _ (p : Prime) (n : ℕ) where
           )
 
   -- ---- two inclusions of one ideal in another, resolved and lifted twice
-  module _ {i : ℕ} {I J I2 J2 : ResolvedIdeal p n} {ls ms : List (PolynomialMatrix p n)} (rI : IsResolved p n i I) (rJ : IsResolved p n i J) (rI2 : IsResolved p n i I2) (rJ2 : IsResolved p n i J2) (ii : LiesIn p n I.generators I2.generators) (i2 : LiesIn p n I2.generators I.generators) (jj : LiesIn p n J.generators J2.generators) (j2 : LiesIn p n J2.generators J.generators) (inside : LiesIn p n I.generators J.generators) (k : IsLiftOfIdentityOf p n i I.differentials J.differentials ls) (l : IsLiftOfIdentityOf p n i I2.differentials J2.differentials ms) where
+  module _ {i : ℕ} {I J I2 J2 : ResolvedIdeal p n} {ls ms : List (PolynomialMatrix p n)} (rI : IsResolved p n i I) (rJ : IsResolved p n i J) (rI2 : IsResolved p n i I2) (rJ2 : IsResolved p n i J2) (ii : LiesIn p n I.generators I2.generators) (i2 : LiesIn p n I2.generators I.generators) (jj : LiesIn p n J.generators J2.generators) (j2 : LiesIn p n J2.generators J.generators) (k : IsLiftOfIdentityOf p n i I.differentials J.differentials ls) (l : IsLiftOfIdentityOf p n i I2.differentials J2.differentials ms) (to_classes : (e : ℕ) (z : List (Polynomial p n)) → IsClass p n i J e z → IsClass p n i I e (image_of p n i ls e z)) where
+    classes_read : (e : ℕ) (z : Mat (polynomials p n) (length_in p n i J) 1) → IsCocycle (matrices p n) (degree_in p n i J) e z → IsCocycle (matrices p n) (degree_in p n i I) e (mapped (matrices p n) (degree_in p n i J) (degree_in p n i I) (lambda_of p n I.differentials J.differentials ls i) e z)
+    classes_read e z c =
+        let b = length_in p n i J in
+        let y : List (Polynomial p n) = list_of (polynomials p n) b z in
+        let q = vector_list_of (polynomials p n) b z in
+        let h = to_classes e y (record { fits = length-list_of (polynomials p n) b z; cocycle = subst (λ x. IsCocycle (matrices p n) (degree_in p n i J) e x) (sym q) c }) in
+        subst (λ x. IsCocycle (matrices p n) (degree_in p n i I) e x) (image_read rI rJ k e y ∙ ap (mapped (matrices p n) (degree_in p n i J) (degree_in p n i I) (lambda_of p n I.differentials J.differentials ls i) e) q) h.cocycle
+
     pub zero_map_words : IsZeroMap p n i J I ls → IsZeroMap p n i J2 I2 ms
     unfolding IsZeroMap
     zero_map_words =
-        same_map_zero (matrices_laws p n) (prime_value p) (prime_positive p) (matrices_power p n) (resolved_read rI) (resolved_read rJ) (resolved_read rI2) (resolved_read rJ2) (inside_read rI rI2 ii) (inside_read rI2 rI i2) (inside_read rJ rJ2 jj) (inside_read rJ2 rJ j2) (inside_read rI rJ inside) (lambda_of p n I.differentials J.differentials ls) (lambda_of p n I2.differentials J2.differentials ms) (identity_read p n rI.resolution rJ.resolution k) (identity_read p n rI2.resolution rJ2.resolution l)
+        same_map_zero (matrices_laws p n) (prime_value p) (prime_positive p) (matrices_power p n) (resolved_read rI) (resolved_read rJ) (resolved_read rI2) (resolved_read rJ2) (inside_read rI rI2 ii) (inside_read rI2 rI i2) (inside_read rJ rJ2 jj) (inside_read rJ2 rJ j2) (lambda_of p n I.differentials J.differentials ls) (lambda_of p n I2.differentials J2.differentials ms) (identity_read p n rI.resolution rJ.resolution k) (identity_read p n rI2.resolution rJ2.resolution l) classes_read
 
     pub one_map_words : IsOneToOneMap p n i J I ls → IsOneToOneMap p n i J2 I2 ms
     unfolding IsOneToOneMap
     one_map_words =
-        same_map_one (matrices_laws p n) (prime_value p) (prime_positive p) (matrices_power p n) (resolved_read rI) (resolved_read rJ) (resolved_read rI2) (resolved_read rJ2) (inside_read rI rI2 ii) (inside_read rI2 rI i2) (inside_read rJ rJ2 jj) (inside_read rJ2 rJ j2) (inside_read rI rJ inside) (lambda_of p n I.differentials J.differentials ls) (lambda_of p n I2.differentials J2.differentials ms) (identity_read p n rI.resolution rJ.resolution k) (identity_read p n rI2.resolution rJ2.resolution l)
+        same_map_one (matrices_laws p n) (prime_value p) (prime_positive p) (matrices_power p n) (resolved_read rI) (resolved_read rJ) (resolved_read rI2) (resolved_read rJ2) (inside_read rI rI2 ii) (inside_read rI2 rI i2) (inside_read rJ rJ2 jj) (inside_read rJ2 rJ j2) (lambda_of p n I.differentials J.differentials ls) (lambda_of p n I2.differentials J2.differentials ms) (identity_read p n rI.resolution rJ.resolution k) (identity_read p n rI2.resolution rJ2.resolution l) classes_read
 
     pub onto_map_words : IsOntoMap p n i J I ls → IsOntoMap p n i J2 I2 ms
     unfolding IsOntoMap
     onto_map_words =
-        same_map_onto (matrices_laws p n) (prime_value p) (prime_positive p) (matrices_power p n) (resolved_read rI) (resolved_read rJ) (resolved_read rI2) (resolved_read rJ2) (inside_read rI rI2 ii) (inside_read rI2 rI i2) (inside_read rJ rJ2 jj) (inside_read rJ2 rJ j2) (inside_read rI rJ inside) (lambda_of p n I.differentials J.differentials ls) (lambda_of p n I2.differentials J2.differentials ms) (identity_read p n rI.resolution rJ.resolution k) (identity_read p n rI2.resolution rJ2.resolution l)
+        same_map_onto (matrices_laws p n) (prime_value p) (prime_positive p) (matrices_power p n) (resolved_read rI) (resolved_read rJ) (resolved_read rI2) (resolved_read rJ2) (inside_read rI rI2 ii) (inside_read rI2 rI i2) (inside_read rJ rJ2 jj) (inside_read rJ2 rJ j2) (lambda_of p n I.differentials J.differentials ls) (lambda_of p n I2.differentials J2.differentials ms) (identity_read p n rI.resolution rJ.resolution k) (identity_read p n rI2.resolution rJ2.resolution l) classes_read
 
     pub onto_after_words : (s : ℕ) → IsOntoAfter p n i J I ls s → IsOntoAfter p n i J2 I2 ms s
     unfolding IsOntoAfter
     onto_after_words =
-        same_onto_by (matrices_laws p n) (prime_value p) (prime_positive p) (matrices_power p n) (resolved_read rI) (resolved_read rJ) (resolved_read rI2) (resolved_read rJ2) (inside_read rI rI2 ii) (inside_read rI2 rI i2) (inside_read rJ rJ2 jj) (inside_read rJ2 rJ j2) (inside_read rI rJ inside) (lambda_of p n I.differentials J.differentials ls) (lambda_of p n I2.differentials J2.differentials ms) (identity_read p n rI.resolution rJ.resolution k) (identity_read p n rI2.resolution rJ2.resolution l)
+        same_onto_by (matrices_laws p n) (prime_value p) (prime_positive p) (matrices_power p n) (resolved_read rI) (resolved_read rJ) (resolved_read rI2) (resolved_read rJ2) (inside_read rI rI2 ii) (inside_read rI2 rI i2) (inside_read rJ rJ2 jj) (inside_read rJ2 rJ j2) (lambda_of p n I.differentials J.differentials ls) (lambda_of p n I2.differentials J2.differentials ms) (identity_read p n rI.resolution rJ.resolution k) (identity_read p n rI2.resolution rJ2.resolution l) classes_read

@@ -152,7 +152,7 @@ module _ {M : Matrices} (L : IsMatrices M) (p : ℕ) (positive : zero < p) (powe
   )
 
   -- ---- induced maps: A and A2 resolve one ideal, B and B2 one that it lies in
-  module _ (A B A2 B2 : Resolved M i) (aa : Inside A A2) (a2 : Inside A2 A) (bb : Inside B B2) (b2 : Inside B2 B) (inside : Inside A B) (k : Family A B) (k2 : Family A2 B2) (kl : IsLift A B k) (kl2 : IsLift A2 B2 k2) where
+  module _ (A B A2 B2 : Resolved M i) (aa : Inside A A2) (a2 : Inside A2 A) (bb : Inside B B2) (b2 : Inside B2 B) (k : Family A B) (k2 : Family A2 B2) (kl : IsLift A B k) (kl2 : IsLift A2 B2 k2) (to_classes : (e : ℕ) (z : Mat (rank_of (B.P).cols i) 1) → IsCocycle M (degree_of B) e z → IsCocycle M (degree_of A) e (carried A B k e z)) where
     up : (l : Family A2 A) × IsLift A2 A l
     up = lift_exists L i A2.P A.P A2.resolves A.resolves a2
 
@@ -181,7 +181,7 @@ module _ {M : Matrices} (L : IsMatrices M) (p : ℕ) (positive : zero < p) (powe
     source_class e z c = carried_class B B2 down.0 down.1 bb e z c
 
     image_class : (e : ℕ) (z : Mat (rank_of (B.P).cols i) 1) → IsCocycle M (degree_of B) e z → IsCocycle M (degree_of A) e (carried A B k e z)
-    image_class e z c = carried_class A B k kl inside e z c
+    image_class e z c = to_classes e z c
 
     pub same_map_zero : InducedMapIsZero M (degree_of B) (degree_of A) (k i) → InducedMapIsZero M (degree_of B2) (degree_of A2) (k2 i)
     same_map_zero f e z c =

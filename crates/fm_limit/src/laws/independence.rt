@@ -59,26 +59,30 @@ pub fn classes_are_carried_over()
         → (e : ℕ) (z : List (Polynomial p n)) → IsClass p n i I e z → (y : List (Polynomial p n)) × IsClass p n i J e y × IsSameClass p n i I e z e (image_of p n i ls e y) }
 {}
 
-/// Where I lies in J, the map of the limits is zero, one to one or onto, and onto after s moves, for one choice of resolutions, Frobenius lifts and lift of the identity exactly as for any other: so each holds for all if it holds for one.
+/// The map of the limits that a lift of the identity induces, where it takes classes to classes, as it does where I lies in J, is zero, one to one or onto, and onto after s moves, for one choice of resolutions, Frobenius lifts and lift of the identity exactly as for any other: so each holds for all if it holds for one.
 pub fn the_induced_map_does_not_depend_on_the_resolution()
     ensures zero { (p : Prime) (n i : ℕ) (I J I2 J2 : ResolvedIdeal p n) (ls ms : List (PolynomialMatrix p n))
         → IsResolved p n i I → IsResolved p n i J → IsResolved p n i I2 → IsResolved p n i J2
         → LiesIn p n I.generators I2.generators → LiesIn p n I2.generators I.generators → LiesIn p n J.generators J2.generators → LiesIn p n J2.generators J.generators
-        → LiesIn p n I.generators J.generators → IsLiftOfIdentityOf p n i I.differentials J.differentials ls → IsLiftOfIdentityOf p n i I2.differentials J2.differentials ms
+        → IsLiftOfIdentityOf p n i I.differentials J.differentials ls → IsLiftOfIdentityOf p n i I2.differentials J2.differentials ms
+        → ((e : ℕ) (z : List (Polynomial p n)) → IsClass p n i J e z → IsClass p n i I e (image_of p n i ls e z))
         → IsZeroMap p n i J I ls → IsZeroMap p n i J2 I2 ms }
     ensures one_to_one { (p : Prime) (n i : ℕ) (I J I2 J2 : ResolvedIdeal p n) (ls ms : List (PolynomialMatrix p n))
         → IsResolved p n i I → IsResolved p n i J → IsResolved p n i I2 → IsResolved p n i J2
         → LiesIn p n I.generators I2.generators → LiesIn p n I2.generators I.generators → LiesIn p n J.generators J2.generators → LiesIn p n J2.generators J.generators
-        → LiesIn p n I.generators J.generators → IsLiftOfIdentityOf p n i I.differentials J.differentials ls → IsLiftOfIdentityOf p n i I2.differentials J2.differentials ms
+        → IsLiftOfIdentityOf p n i I.differentials J.differentials ls → IsLiftOfIdentityOf p n i I2.differentials J2.differentials ms
+        → ((e : ℕ) (z : List (Polynomial p n)) → IsClass p n i J e z → IsClass p n i I e (image_of p n i ls e z))
         → IsOneToOneMap p n i J I ls → IsOneToOneMap p n i J2 I2 ms }
     ensures onto { (p : Prime) (n i : ℕ) (I J I2 J2 : ResolvedIdeal p n) (ls ms : List (PolynomialMatrix p n))
         → IsResolved p n i I → IsResolved p n i J → IsResolved p n i I2 → IsResolved p n i J2
         → LiesIn p n I.generators I2.generators → LiesIn p n I2.generators I.generators → LiesIn p n J.generators J2.generators → LiesIn p n J2.generators J.generators
-        → LiesIn p n I.generators J.generators → IsLiftOfIdentityOf p n i I.differentials J.differentials ls → IsLiftOfIdentityOf p n i I2.differentials J2.differentials ms
+        → IsLiftOfIdentityOf p n i I.differentials J.differentials ls → IsLiftOfIdentityOf p n i I2.differentials J2.differentials ms
+        → ((e : ℕ) (z : List (Polynomial p n)) → IsClass p n i J e z → IsClass p n i I e (image_of p n i ls e z))
         → IsOntoMap p n i J I ls → IsOntoMap p n i J2 I2 ms }
     ensures moves { (p : Prime) (n i : ℕ) (I J I2 J2 : ResolvedIdeal p n) (ls ms : List (PolynomialMatrix p n))
         → IsResolved p n i I → IsResolved p n i J → IsResolved p n i I2 → IsResolved p n i J2
         → LiesIn p n I.generators I2.generators → LiesIn p n I2.generators I.generators → LiesIn p n J.generators J2.generators → LiesIn p n J2.generators J.generators
-        → LiesIn p n I.generators J.generators → IsLiftOfIdentityOf p n i I.differentials J.differentials ls → IsLiftOfIdentityOf p n i I2.differentials J2.differentials ms
+        → IsLiftOfIdentityOf p n i I.differentials J.differentials ls → IsLiftOfIdentityOf p n i I2.differentials J2.differentials ms
+        → ((e : ℕ) (z : List (Polynomial p n)) → IsClass p n i J e z → IsClass p n i I e (image_of p n i ls e z))
         → (s : ℕ) → IsOntoAfter p n i J I ls s → IsOntoAfter p n i J2 I2 ms s }
 {}
