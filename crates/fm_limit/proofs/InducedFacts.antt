@@ -20,12 +20,12 @@ use Rattle.fm_limit.proofs.Waist.{everything_read}
 use Rattle.fm_limit.proofs.ColonFacts.{same_from}
 
 module _ (p : Prime) (n : ℕ) where
-  beside_read : (m a b : ℕ) (A B : PolynomialMatrix p n) → HasShape p n m a A → HasShape p n m b B
+  pub beside_read : (m a b : ℕ) (A B : PolynomialMatrix p n) → HasShape p n m a A → HasShape p n m b B
       → read (polynomials p n) m (a + b) (matrix_beside p n A B) ≡ beside (polynomials p n) (read (polynomials p n) m a A) (read (polynomials p n) m b B)
   unfolding HasShape matrix_beside
   beside_read m a b A B s t = read_joined (polynomials p n) m a b A B s.0 s.1 t.1
 
-  beside_fits : (m a b : ℕ) (A B : PolynomialMatrix p n) → HasShape p n m a A → HasShape p n m b B → HasShape p n m (a + b) (matrix_beside p n A B)
+  pub beside_fits : (m a b : ℕ) (A B : PolynomialMatrix p n) → HasShape p n m a A → HasShape p n m b B → HasShape p n m (a + b) (matrix_beside p n A B)
   unfolding HasShape matrix_beside
   beside_fits m a b A B s t = joined_shaped (polynomials p n) m a b A B s.0 s.1 t.1
 
@@ -39,16 +39,16 @@ module _ (p : Prime) (n : ℕ) where
     abbrev phi : (matrices p n).Mat gT gS
     phi = read (polynomials p n) gT gS Phi
 
-    abbrev lambda : (matrices p n).Mat (length_in p n i source) (length_in p n i target)
+    abbrev pub lambda : (matrices p n).Mat (length_in p n i source) (length_in p n i target)
     lambda = lambda_in p n i source target ls
 
-    maps_read : Maps (matrices p n) (degree_in p n i source) (degree_in p n i target) lambda
+    pub maps_read : Maps (matrices p n) (degree_in p n i source) (degree_in p n i target) lambda
     maps_read =
         let x = (Y.resolved).resolution in
         let y = (X.resolved).resolution in
         lift_maps (matrices_laws p n) i (complex_of p n target.differentials) (complex_of p n source.differentials) (resolution_read p n x) (resolution_read p n y) (theta_of p n source.differentials source.lift) (theta_of p n target.differentials target.lift) (lambda_of p n target.differentials source.differentials ls) (frobenius_read p n y (X.resolved).frobenius) (frobenius_read p n x (Y.resolved).frobenius) (identity_read p n x y F.identity)
 
-    square_read : mul (polynomials p n) (flip (polynomials p n) lambda) (read (polynomials p n) (length_in p n i source) gS ZS) ≡ mul (polynomials p n) (read (polynomials p n) (length_in p n i target) gT ZT) phi
+    pub square_read : mul (polynomials p n) (flip (polynomials p n) lambda) (read (polynomials p n) (length_in p n i source) gS ZS) ≡ mul (polynomials p n) (read (polynomials p n) (length_in p n i target) gT ZT) phi
     square_read =
         let a = length_in p n i source in
         let b = length_in p n i target in
@@ -68,7 +68,7 @@ module _ (p : Prime) (n : ℕ) where
     source_fits : HasShape p n gS (columns_of p n KS s) (matrix_at p n KS s)
     source_fits = member_fits p n gS (X.ext).morphism_fits X.chain s (omega arith)
 
-    target_fits : (r : ℕ) → r ≤ suc t → HasShape p n gT (columns_of p n KT r) (matrix_at p n KT r)
+    pub target_fits : (r : ℕ) → r ≤ suc t → HasShape p n gT (columns_of p n KT r) (matrix_at p n KT r)
     target_fits r b = member_fits p n gT (Y.ext).morphism_fits Y.chain r b
 
     -- the induced map is zero exactly if the columns of Phi lie in the stable kernel of the target

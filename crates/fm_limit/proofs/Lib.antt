@@ -15,3 +15,5 @@ pub mod InducedFacts
 pub mod VerdictLaws
 pub mod StageWords
 pub mod IndependenceWords
+pub mod HomotopyWords
+pub mod ChainWords

@@ -70,7 +70,7 @@ module _ (p : Prime) (n : ℕ) where
         let h : InImage p n A z ↔ IsCoboundary (matrices p n) (degree_in p n i I) e (vector_in p n i I z) = subst (λ X. InImage p n A z ↔ image.InImage (matrices p n) X (vector (polynomials p n) b z)) (dual_read e a b d f ∙ ap (λ Y. flip (polynomials p n) {m = a} {n = b} (each (polynomials p n) (frobenius_twist p n e) {m = a} {n = b} Y)) (below_read p n I.differentials i)) (image_words b a A z (dual_fits e a b d f) l) in
         turned (subst (λ x. InImage p n A z ↔ IsCoboundary (matrices p n) (degree_in p n i I) x (vector_in p n i I z)) (sym (add-zero e)) h)
 
-    moved_read : (e : ℕ) (z : List (Polynomial p n)) → vector_in p n i I (moved_once p n i I e z) ≡ move (matrices p n) (degree_in p n i I) e (vector_in p n i I z)
+    pub moved_read : (e : ℕ) (z : List (Polynomial p n)) → vector_in p n i I (moved_once p n i I e z) ≡ move (matrices p n) (degree_in p n i I) e (vector_in p n i I z)
     unfolding moved_once vector_product HasShape
     moved_read e z =
         let a = length_in p n i I in

@@ -29,6 +29,19 @@ module _ (p : Prime) (n : ℕ) where
     pub fits : (s : ℕ) → s ≤ t → HasShape p n (length U.columns) (length (matrix_at p n Ks s).columns) (matrix_at p n Ks s)
     pub step : (s : ℕ) → s < t → GeneratesPreimage p n (matrix_at p n Ks (suc s)) U (matrix_twist p n 1 (matrix_at p n Ks s))
 
+  -- K_0, K_1, .. is the whole chain of U: the columns of U * K_0 lie in im K_0^[p], and each K_(s+1) generates all w with U * w in
+  -- im K_s^[p].
+  pub record IsWholeChain (U : PolynomialMatrix p n) (K : ℕ → PolynomialMatrix p n) : Type 0 where
+    pub square : HasShape p n (length U.columns) (length U.columns) U
+    pub fits : (s : ℕ) → HasShape p n (length U.columns) (length (K s).columns) (K s)
+    pub begins : ColumnsInImage (matrix_twist p n 1 (K 0)) (matrix_product p n U (K 0))
+    pub step : (s : ℕ) → GeneratesPreimage p n (K (suc s)) U (matrix_twist p n 1 (K s))
+
+  -- s steps from w at stage e; a step multiplies by U^[q] and goes to the next stage
+  unfoldable pub steps_of : PolynomialMatrix p n → ℕ → ℕ → List (Polynomial p n) → List (Polynomial p n)
+  steps_of U zero e w = w
+  steps_of U (suc s) e w = steps_of U s (suc e) (vector_product p n (matrix_twist p n e U) w)
+
   -- no member of the chain before K_t has the columns of the next
   abbrev pub IsFirstRepeat : List (PolynomialMatrix p n) → ℕ → Type 0
   IsFirstRepeat Ks t = (s : ℕ) → s < t → ColumnsInImage (matrix_at p n Ks s) (matrix_at p n Ks (suc s)) → ⊥
