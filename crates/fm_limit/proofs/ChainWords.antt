@@ -1,7 +1,7 @@
 -- The rising chain and steps in the words of contracts
 use Rattle.std.proofs.Common.{ℕ, zero, suc, ◌+◌, ◌≡◌, ◌∙◌, ◌↔◌, min, refl, sym, ap, subst, arith, List, length}
 use Rattle.fm_gfp.specs.declared.prime.Prime.{Prime}
-use Rattle.fm_algebra.specs.Families.{Mat, mul, beside, each, read, vector}
+use Rattle.fm_algebra.specs.Families.{mul, beside, each, read, vector}
 use Rattle.fm_algebra.specs.Image as image
 use Rattle.fm_algebra.specs.Polynomials.{Polynomial, polynomials, frobenius_twist}
 use Rattle.fm_algebra.specs.PolynomialMatrices.{PolynomialMatrix, HasShape, matrix_product, matrix_beside, matrix_twist, vector_product, InImage}
@@ -14,7 +14,7 @@ use Rattle.fm_limit.specs.Facts.{ColumnsInImage, PresentsExt, IsWholeChain, step
 use Rattle.fm_limit.proofs.Chains.{Chain, steps, rising, to_repeat, steps_exact, some_steps_exact}
 use Rattle.fm_limit.proofs.Moves.{relations_begin}
 use Rattle.fm_limit.proofs.Induced.{join_begins}
-use Rattle.fm_limit.proofs.FactsRead.{matrices_laws, matrices_flat, product_read, twist_read, twist_fits, preimage_from, columns_from, moves_read, ext_read, facts_read, member, member_fits}
+use Rattle.fm_limit.proofs.FactsRead.{matrices_laws, matrices_flat, product_read, twist_read, twist_fits, preimage_from, columns_from, moves_read, ext_read, facts_read, member}
 use Rattle.fm_limit.proofs.InducedFacts.{beside_read, beside_fits, maps_read, square_read, target_fits, lambda}
 
 module _ (p : Prime) (n : ℕ) where

@@ -1,22 +1,22 @@
 -- Colons by powers of an element, as facts on lists of matrices; coordinates of classes
-use Rattle.std.proofs.Common.{ℕ, zero, suc, ◌+◌, ◌<◌, ◌≤◌, ◌≡◌, ◌∙◌, ◌↔◌, refl, sym, ap, subst, arith, List, length}
+use Rattle.std.proofs.Common.{ℕ, zero, suc, ◌+◌, ◌<◌, ◌≤◌, ◌≡◌, ◌∙◌, ◌↔◌, ap, subst, arith, List, length}
 use Rattle.fm_gfp.specs.declared.prime.Prime.{Prime}
 use Rattle.fm_algebra.specs.Families.{Mat, mul, each, scalar, read, vector, element}
-use Rattle.fm_algebra.specs.Image.{InImage, Everything, SameImage, Generates, pow}
+use Rattle.fm_algebra.specs.Image.{InImage, SameImage, Generates, pow}
 use Rattle.fm_algebra.specs.Polynomials.{Polynomial, polynomials, polynomial_power, frobenius_twist}
 use Rattle.fm_algebra.specs.PolynomialMatrices as words
 use Rattle.fm_algebra.specs.PolynomialMatrices.{PolynomialMatrix, HasShape, matrix_scalar, matrix_twist, vector_product}
 use Rattle.fm_algebra.proofs.Tables.{list_of, length-list_of, vector_list_of, vector_apply, vector_injective, length-apply}
-use Rattle.fm_algebra.proofs.Images.{within_columns, columns_within}
+use Rattle.fm_algebra.proofs.Images.{columns_within}
 use Rattle.fm_algebra.proofs.ListImages.{through, turned}
 use Rattle.fm_limit.specs.ResolvedIdeal.{ResolvedIdeal, matrix_at, columns_of}
-use Rattle.fm_limit.specs.Classes.{matrices, length_in, vector_in, IsClass, VanishesAfterInverting}
+use Rattle.fm_limit.specs.Classes.{matrices, length_in, vector_in, IsClass}
 use Rattle.fm_limit.specs.Facts.{ColumnsInImage, IsEverything, AreCoordinates, DegreeFacts, IsColons}
 use Rattle.fm_limit.proofs.Moves.{coords}
 use Rattle.fm_limit.proofs.Vanishing.{colon_everything, colon_rises, colon_never}
 use Rattle.fm_limit.proofs.Reading.{same_read}
 use Rattle.fm_limit.proofs.FactsRead.{matrices_laws, matrices_flat, preimage_from, columns_from, member, moves_read, facts_read, twist_read, twist_fits}
-use Rattle.fm_limit.proofs.Waist.{everything_read, scalar_columns_read, scalar_fits, scalar_read, powers, shape_rows, vanishes_fact}
+use Rattle.fm_limit.proofs.Waist.{everything_read, scalar_columns_read, scalar_fits, scalar_read, powers}
 
 module _ (p : Prime) (n : ℕ) where
   -- two matrices of lists with one image

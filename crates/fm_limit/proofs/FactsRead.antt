@@ -1,12 +1,12 @@
 -- Facts on lists of matrices over GF(p)[x1 .. xn], read as facts of the theory
-use Rattle.std.proofs.Common.{ℕ, zero, suc, ◌+◌, ◌<◌, ◌≤◌, ◌≡◌, ◌∙◌, ◌↔◌, min, refl, sym, ap, ap₂, subst, arith, List, [], ◌∷◌, length, get_or}
+use Rattle.std.proofs.Common.{ℕ, zero, suc, ◌<◌, ◌≤◌, ◌≡◌, ◌∙◌, ◌↔◌, min, refl, sym, ap, subst, arith, List, length}
 use Rattle.fm_gfp.specs.Primes.{prime_value}
 use Rattle.fm_gfp.proofs.Residues.{prime_positive}
 use Rattle.fm_gfp.specs.declared.prime.Prime.{Prime}
 use Rattle.fm_algebra.specs.Matrices.{IsMatrices}
-use Rattle.fm_algebra.specs.Matrix.{Matrix, cols, IsShaped, transpose, column_matrix, zero_matrix, entrywise, InListImage}
-use Rattle.fm_algebra.specs.Families.{Mat, mul, add, nil, unit, flip, each, read, vector, element, families}
-use Rattle.fm_algebra.specs.Image.{Flat, IsPower, InImage, Generates, GeneratesKernel, SameImage, Within}
+use Rattle.fm_algebra.specs.Matrix.{IsShaped, column_matrix, InListImage}
+use Rattle.fm_algebra.specs.Families.{mul, unit, flip, each, read}
+use Rattle.fm_algebra.specs.Image.{Flat, IsPower, InImage, Generates, GeneratesKernel, SameImage}
 use Rattle.fm_algebra.specs.Polynomials.{Polynomial, polynomials, polynomial_power, frobenius_twist}
 use Rattle.fm_algebra.specs.PolynomialMatrices as words
 use Rattle.fm_algebra.specs.PolynomialMatrices.{PolynomialMatrix, HasShape, matrix_product, matrix_zero, matrix_unit, matrix_transpose, matrix_column, matrix_twist, InKernel, InPreimage}
@@ -16,8 +16,8 @@ use Rattle.fm_algebra.proofs.FamilyLaws.{families_laws}
 use Rattle.fm_algebra.proofs.FamilyPowers.{is_power}
 use Rattle.fm_algebra.proofs.Flatness.{is_flat}
 use Rattle.fm_algebra.proofs.Tables.{read_product, read_transpose, transpose_shaped, read_unit, read_zero, zero_shaped, column_shaped, read_entrywise, entrywise_shaped}
-use Rattle.fm_algebra.proofs.Images.{within_columns, columns_within}
-use Rattle.fm_limit.specs.Resolution.{rank_of, rank_before, Complex, d_below}
+use Rattle.fm_algebra.proofs.Images.{columns_within}
+use Rattle.fm_limit.specs.Resolution.{rank_before, d_below}
 use Rattle.fm_limit.specs.ResolvedIdeal.{ResolvedIdeal, matrix_at, columns_of, rank, differential, row, InIdeal, IsResolutionOf, IsFrobeniusLiftOf, IsResolved, IsLiftOfIdentityOf}
 use Rattle.fm_limit.specs.Classes.{matrices, read_at, complex_of, theta_of, lambda_of, degree_in, length_in}
 use Rattle.fm_limit.specs.Facts.{ColumnsInImage, PresentsExt, IsChain, DegreeFacts}

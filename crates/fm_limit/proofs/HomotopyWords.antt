@@ -1,10 +1,10 @@
 -- Homotopy in the words of contracts
-use Rattle.std.proofs.Common.{ℕ, zero, suc, ◌+◌, ◌≡◌, ◌∙◌, ◌↔◌, refl, sym, ap, ap₂, subst, arith, add-zero, List, length}
+use Rattle.std.proofs.Common.{ℕ, suc, ◌+◌, ◌∙◌, sym, ap, ap₂, subst, add-zero, List}
 use Rattle.fm_gfp.specs.declared.prime.Prime.{Prime}
-use Rattle.fm_algebra.specs.Families.{add, neg, read, vector}
+use Rattle.fm_algebra.specs.Families.{add, neg}
 use Rattle.fm_algebra.specs.Polynomials.{Polynomial, polynomials}
 use Rattle.fm_algebra.specs.PolynomialMatrices.{PolynomialMatrix}
-use Rattle.fm_limit.specs.DirectSystem.{IsCocycle, IsCoboundary, move, moved, IsKilledBy}
+use Rattle.fm_limit.specs.DirectSystem.{IsCoboundary, move, moved}
 use Rattle.fm_limit.specs.Limit.{mapped}
 use Rattle.fm_limit.specs.ResolvedIdeal.{ResolvedIdeal, IsResolutionOf, IsFrobeniusLiftOf, IsResolved, IsLiftOfIdentityOf}
 use Rattle.fm_limit.specs.Classes.{matrices, complex_of, theta_of, lambda_of, degree_in, vector_in, moved_once, image_of, IsClass, IsCoboundaryAfter, AreCohomologous}

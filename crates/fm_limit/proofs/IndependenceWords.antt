@@ -1,9 +1,9 @@
 -- What is said of the limit does not depend on the resolution and the lifts, in the words of contracts
-use Rattle.std.proofs.Common.{ℕ, zero, suc, ◌+◌, ◌≤◌, ◌≡◌, ◌∙◌, ◌↔◌, refl, sym, ap, subst, arith, add-zero, Bool, IsTrue, List, [], ◌∷◌, length, Option, Some, None}
+use Rattle.std.proofs.Common.{ℕ, zero, ◌≡◌, ◌∙◌, ◌↔◌, refl, sym, ap, subst, arith, add-zero, Bool, List, [], ◌∷◌, length, Option, Some, None}
 use Rattle.fm_gfp.specs.Primes.{prime_value}
 use Rattle.fm_gfp.proofs.Residues.{prime_positive}
 use Rattle.fm_gfp.specs.declared.prime.Prime.{Prime}
-use Rattle.fm_algebra.specs.Families.{only, Mat, mul, add, neg, flip, each, read, vector, element}
+use Rattle.fm_algebra.specs.Families.{only, Mat, mul, add, neg, read, vector, element}
 use Rattle.fm_algebra.specs.Matrix.{component}
 use Rattle.fm_algebra.specs.Image as image
 use Rattle.fm_algebra.specs.Polynomials.{Polynomial, polynomials, polynomial_power, frobenius_twist}
@@ -12,12 +12,12 @@ use Rattle.fm_algebra.proofs.Concrete.{polynomials_laws}
 use Rattle.fm_algebra.proofs.FamilyPowers.{single}
 use Rattle.fm_algebra.proofs.Images.{within_columns}
 use Rattle.fm_algebra.proofs.Tables.{vector_apply, length-apply, list_of, length-list_of, vector_list_of}
-use Rattle.fm_algebra.proofs.ListImages.{through, turned, list_image}
-use Rattle.fm_limit.specs.DirectSystem.{IsCocycle, IsCoboundary, IsKilledBy, IsZeroInLimit, IsSameInLimit, moved}
+use Rattle.fm_algebra.proofs.ListImages.{through, list_image}
+use Rattle.fm_limit.specs.DirectSystem.{IsCocycle, IsCoboundary, IsKilledBy, IsZeroInLimit, moved}
 use Rattle.fm_limit.specs.Limit.{mapped}
-use Rattle.fm_limit.specs.ResolvedIdeal.{ResolvedIdeal, matrix_at, columns_of, rank, row, InIdeal, LiesIn, IsResolved, IsLiftOfIdentityOf}
+use Rattle.fm_limit.specs.ResolvedIdeal.{ResolvedIdeal, matrix_at, row, InIdeal, LiesIn, IsResolved, IsLiftOfIdentityOf}
 use Rattle.fm_limit.specs.Classes.{matrices, complex_of, theta_of, lambda_of, degree_in, length_in, vector_in, image_of, IsClass, IsCoboundaryAfter, IsZeroClass, IsSameClass, IsZeroLimit, VanishesAfterInverting, AnnihilatesClasses, IsEnoughMoves, IsSupportIdealOf, IsZeroMap, IsOneToOneMap, IsOntoMap, IsOntoAfter}
-use Rattle.fm_limit.specs.Verdicts.{IsLeast, zero_limit, inverting, support, induced_map, Holds, HoldsOfInverting, HoldsOfOnto}
+use Rattle.fm_limit.specs.Verdicts.{IsLeast, zero_limit, inverting, support, Holds}
 use Rattle.fm_limit.proofs.FactsRead.{matrices_laws, matrices_power, row_fits, resolution_read, frobenius_read, identity_read}
 use Rattle.fm_limit.proofs.StageWords.{dual_fits, dual_read}
 use Rattle.fm_limit.proofs.Resolved.{Resolved, Inside, carried_class, carried_killed, carried_zero, carried_onto, same_zero, same_vanishing, same_annihilators, same_enough, same_support, same_map_zero, same_map_one, same_map_onto, same_onto_by}

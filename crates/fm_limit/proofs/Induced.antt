@@ -1,6 +1,5 @@
 -- The induced map in coordinates: zero, one to one, onto
-use Rattle.std.proofs.Common.{ℕ, zero, suc, ◌+◌, ◌<◌, ◌≤◌, ◌≡◌, ◌↔◌, ◌∙◌, sym, ap, subst, add-zero, zero-add, arith}
-use native.Mathlib.Decide.{dec_le}
+use Rattle.std.proofs.Common.{ℕ, zero, suc, ◌+◌, ◌≡◌, ◌↔◌, ◌∙◌, sym, ap, subst, add-zero, zero-add}
 use Rattle.fm_algebra.specs.Matrices.{Matrices, IsMatrices}
 use Rattle.fm_algebra.specs.Image.{InImage, Within, SameImage, Everything, Flat, Generates}
 use Rattle.fm_algebra.proofs.Images.{image_self, image_mul, image_trans, image_twist, image_add, image_neg, image_near, image_columns, within_columns, within_twist, everything_twist, mul_nil, nil_add, add_sub, twist_product}

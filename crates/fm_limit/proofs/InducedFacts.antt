@@ -1,14 +1,14 @@
 -- From the finite facts of an inclusion of ideals to the induced map
-use Rattle.std.proofs.Common.{ℕ, zero, suc, ◌+◌, ◌<◌, ◌≤◌, ◌≡◌, ◌∙◌, ◌↔◌, min, refl, sym, ap, subst, arith, List, length}
+use Rattle.std.proofs.Common.{ℕ, zero, suc, ◌+◌, ◌<◌, ◌≤◌, ◌≡◌, ◌∙◌, ◌↔◌, min, sym, ap, subst, arith, List, length}
 use Rattle.fm_gfp.specs.declared.prime.Prime.{Prime}
-use Rattle.fm_algebra.specs.Families.{Mat, mul, flip, beside, each, read, vector}
+use Rattle.fm_algebra.specs.Families.{mul, flip, beside, each, read}
 use Rattle.fm_algebra.specs.Image.{InImage, Everything, SameImage, Generates}
-use Rattle.fm_algebra.specs.Polynomials.{Polynomial, polynomials, frobenius_twist}
+use Rattle.fm_algebra.specs.Polynomials.{polynomials, frobenius_twist}
 use Rattle.fm_algebra.specs.PolynomialMatrices as words
 use Rattle.fm_algebra.specs.PolynomialMatrices.{PolynomialMatrix, HasShape, matrix_beside, matrix_transpose}
 use Rattle.fm_algebra.proofs.Tables.{read_joined, joined_shaped}
 use Rattle.fm_algebra.proofs.ListImages.{through, turned}
-use Rattle.fm_limit.specs.ResolvedIdeal.{ResolvedIdeal, matrix_at, columns_of, rank}
+use Rattle.fm_limit.specs.ResolvedIdeal.{ResolvedIdeal, matrix_at, columns_of}
 use Rattle.fm_limit.specs.Classes.{matrices, degree_in, length_in, theta_of, lambda_of, lambda_in, complex_of, IsZeroMap, IsOneToOneMap, IsOntoMap, IsOntoAfter}
 use Rattle.fm_limit.specs.Facts.{ColumnsInImage, IsEverything, DegreeFacts, MapFacts, JoinFacts}
 use Rattle.fm_limit.proofs.Chains.{Chain, rising_to, last_repeats, last_everything}

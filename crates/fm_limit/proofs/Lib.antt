@@ -17,3 +17,4 @@ pub mod StageWords
 pub mod IndependenceWords
 pub mod HomotopyWords
 pub mod ChainWords
+pub mod TwistedResolution

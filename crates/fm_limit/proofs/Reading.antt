@@ -1,13 +1,13 @@
 -- Facts on matrices of lists, read as facts on families
-use Rattle.std.proofs.Common.{ℕ, zero, ◌<◌, ◌≡◌, ◌∙◌, ◌↔◌, refl, sym, ap, subst, List, [], ◌∷◌, length, get_or, arith}
+use Rattle.std.proofs.Common.{ℕ, ◌<◌, ◌≡◌, ◌∙◌, ◌↔◌, sym, subst, List, [], ◌∷◌, length, get_or, arith}
 use Rattle.fm_algebra.specs.Ring.{Ring, IsRing, IsFrobenius}
-use Rattle.fm_algebra.specs.Matrix.{Matrix, cols, entry, component, IsShaped, product, apply, transpose, entrywise, unit_matrix, scalar_matrix, InListImage, InListKernel, InListPreimage}
-use Rattle.fm_algebra.specs.Families.{Mat, mul, unit, flip, each, basis, scalar, read, vector, element, families}
-use Rattle.fm_algebra.specs.Image.{InImage, InKernel, Generates, GeneratesKernel, Within, SameImage}
+use Rattle.fm_algebra.specs.Matrix.{Matrix, cols, entry, component, IsShaped, apply, InListImage, InListKernel, InListPreimage}
+use Rattle.fm_algebra.specs.Families.{Mat, mul, basis, read, vector, families}
+use Rattle.fm_algebra.specs.Image.{InImage, InKernel, Generates, GeneratesKernel, SameImage}
 use Rattle.fm_algebra.proofs.FamilyLaws.{sum_at, families_laws}
-use Rattle.fm_algebra.proofs.Tables.{read_product, read_transpose, read_entrywise, read_unit, list_of, length-list_of, vector_list_of}
-use Rattle.fm_algebra.proofs.Images.{columns_within, image_columns, image_mul}
-use Rattle.fm_algebra.proofs.ListImages.{through, turned, length_image, list_image, list_kernel, list_preimage}
+use Rattle.fm_algebra.proofs.Tables.{list_of, length-list_of, vector_list_of}
+use Rattle.fm_algebra.proofs.Images.{image_columns, image_mul}
+use Rattle.fm_algebra.proofs.ListImages.{through, turned, list_image, list_kernel, list_preimage}
 
 -- what holds of lists of one entry
 pub one_entry : {X : Type 0} (P Q : List X → Type 0) → ((f : X) → P (f ∷ []) ↔ Q (f ∷ [])) → (v : List X) → length v ≡ 1 → P v ↔ Q v

@@ -1,13 +1,13 @@
 -- Ideals with resolutions and lifts: what is said of the limit does not depend on them
-use Rattle.std.proofs.Common.{ℕ, zero, suc, ◌+◌, ◌<◌, ◌≤◌, ◌≡◌, ◌↔◌, ◌∙◌, refl, sym, ap, subst, arith}
+use Rattle.std.proofs.Common.{ℕ, zero, ◌+◌, ◌<◌, ◌≡◌, ◌↔◌, ◌∙◌, sym, ap, subst, arith}
 use Rattle.fm_algebra.specs.Matrices.{Matrices, IsMatrices}
 use Rattle.fm_algebra.specs.Image.{InImage, IsPower, pow}
-use Rattle.fm_algebra.proofs.Images.{image_trans, image_add, image_neg, nil_mul}
-use Rattle.fm_limit.specs.Resolution.{rank_of, rank_before, d_below, Complex}
+use Rattle.fm_algebra.proofs.Images.{image_add, image_neg, nil_mul}
+use Rattle.fm_limit.specs.Resolution.{rank_of, d_below, Complex}
 use Rattle.fm_limit.proofs.Resolutions.{IsResolution, IsFrobeniusLift, IsLiftOfIdentity}
-use Rattle.fm_limit.specs.DirectSystem.{degree, Degree, IsCocycle, IsCoboundary, moved, IsKilledBy, IsZeroInLimit, IsSameInLimit}
+use Rattle.fm_limit.specs.DirectSystem.{degree, Degree, IsCocycle, IsCoboundary, moved, IsKilledBy, IsZeroInLimit}
 use Rattle.fm_limit.specs.Limit.{mapped, LimitIsZero, VanishesInverting, Annihilates, IsEnough, IsSupportIdeal, InducedMapIsZero, InducedMapIsOneToOne, InducedMapIsOnto, IsOntoBy}
-use Rattle.fm_limit.proofs.Moves.{Moves, dual, moved_times}
+use Rattle.fm_limit.proofs.Moves.{Moves, dual}
 use Rattle.fm_limit.proofs.Maps.{Maps, mapped_coboundary, mapped_cocycle}
 use Rattle.fm_limit.proofs.Homotopy.{lift_moves, lift_maps, identities_differ, upper_square}
 use Rattle.fm_limit.proofs.Independence.{IsSameBy, neg_sub, sub_chain, flip_unit, killed_near, zero_near, mapped_killed, mapped_zero, mapped_sub, mapped_same, same_near, same_turned, lift_after, lift_itself, lift_exists}

@@ -1,16 +1,16 @@
 -- Cocycles, coboundaries and moves in words of lists
-use Rattle.std.proofs.Common.{ℕ, zero, suc, ◌+◌, ◌≡◌, ◌∙◌, ◌↔◌, refl, sym, ap, subst, arith, add-zero, List, length}
+use Rattle.std.proofs.Common.{ℕ, suc, ◌+◌, ◌≡◌, ◌∙◌, ◌↔◌, sym, ap, subst, arith, add-zero, List, length}
 use Rattle.fm_gfp.specs.declared.prime.Prime.{Prime}
 use Rattle.fm_algebra.specs.Families.{mul, flip, each, read, vector}
 use Rattle.fm_algebra.specs.Image as image
 use Rattle.fm_algebra.specs.Polynomials.{Polynomial, polynomials, frobenius_twist}
 use Rattle.fm_algebra.specs.PolynomialMatrices.{PolynomialMatrix, HasShape, matrix_transpose, matrix_twist, vector_product, InImage, InKernel}
 use Rattle.fm_algebra.proofs.Tables.{vector_apply, length-apply}
-use Rattle.fm_algebra.proofs.ListImages.{through, turned, list_image, list_kernel}
-use Rattle.fm_limit.specs.Resolution.{rank_before, d_below}
+use Rattle.fm_algebra.proofs.ListImages.{turned, list_image, list_kernel}
+use Rattle.fm_limit.specs.Resolution.{rank_before}
 use Rattle.fm_limit.specs.DirectSystem.{IsCocycle, IsCoboundary, move, moved, IsKilledBy}
-use Rattle.fm_limit.specs.ResolvedIdeal.{ResolvedIdeal, matrix_at, columns_of, rank, differential, IsResolved}
-use Rattle.fm_limit.specs.Classes.{matrices, degree_in, length_in, vector_in, complex_of, moved_once, IsClass, IsCoboundaryAfter}
+use Rattle.fm_limit.specs.ResolvedIdeal.{ResolvedIdeal, matrix_at, columns_of, differential, IsResolved}
+use Rattle.fm_limit.specs.Classes.{matrices, degree_in, length_in, vector_in, moved_once, IsClass, IsCoboundaryAfter}
 use Rattle.fm_limit.proofs.Moves.{cocycle_moves}
 use Rattle.fm_limit.proofs.FactsRead.{matrices_laws, moves_read, twist_read, twist_fits, transpose_read, transpose_fits, below_read, below_fits}
 

@@ -1,12 +1,12 @@
 -- The least number of moves, vanishing after inverting an element, and support ideals
-use Rattle.std.proofs.Common.{ℕ, zero, suc, ◌+◌, ◌*◌, ◌^◌, ◌<◌, ◌≤◌, ◌≡◌, ◌↔◌, ◌∙◌, refl, sym, ap, subst, arith, add-zero, zero-add}
+use Rattle.std.proofs.Common.{ℕ, zero, suc, ◌+◌, ◌*◌, ◌^◌, ◌<◌, ◌≤◌, ◌≡◌, ◌↔◌, ◌∙◌, sym, ap, subst, arith, add-zero}
 use Rattle.std.proofs.Math.Nat.{mul-zero}
 use native.Mathlib.Decide.{dec_le}
 use native.Mathlib.Bridge.{le_prop}
 use Rattle.fm_algebra.specs.Matrices.{Matrices, IsMatrices}
 use Rattle.fm_algebra.specs.Image.{InImage, Generates, SameImage, Everything, Flat, pow, IsPower}
 use Rattle.fm_algebra.proofs.Images.{image_mul, image_twist, image_columns}
-use Rattle.fm_limit.specs.DirectSystem.{Degree, IsCocycle, IsCoboundary, moved, IsKilledBy, IsZeroInLimit}
+use Rattle.fm_limit.specs.DirectSystem.{Degree, IsCoboundary, moved, IsKilledBy, IsZeroInLimit}
 use Rattle.fm_limit.specs.Limit.{VanishesInverting, Annihilates, IsEnough, IsSupportIdeal}
 use Rattle.fm_limit.proofs.Chains.{rising}
 use Rattle.fm_limit.proofs.Moves.{Moves, Computed, coboundaries_moves, moved_more, coords, is_class, killed_exactly, to_stable, zero_exactly}

@@ -1,16 +1,16 @@
 -- Facts give verdicts
-use Rattle.std.proofs.Common.{ℕ, zero, suc, ◌+◌, ◌<◌, ◌≤◌, ◌-◌, ◌≡◌, ◌∙◌, ◌↔◌, refl, sym, ap, subst, arith, Bool, IsTrue, List, length, Option, Some, None}
+use Rattle.std.proofs.Common.{ℕ, suc, ◌+◌, ◌<◌, ◌≤◌, ◌-◌, ◌≡◌, ◌↔◌, refl, subst, arith, Bool, IsTrue, List, length, Option, Some, None}
 use native.Mathlib.Decide.{dec_le}
 use Rattle.fm_gfp.specs.declared.prime.Prime.{Prime}
 use Rattle.fm_algebra.specs.Matrix.{listed}
 use Rattle.fm_algebra.specs.Polynomials.{Polynomial, polynomial_power}
-use Rattle.fm_algebra.specs.PolynomialMatrices.{PolynomialMatrix, HasShape, matrix_scalar, matrix_twist, vector_product, InImage, GeneratesPreimage}
-use Rattle.fm_algebra.proofs.ListImages.{through, turned}
-use Rattle.fm_limit.specs.ResolvedIdeal.{ResolvedIdeal, matrix_at, columns_of, rank, InIdeal, IsResolutionOf}
-use Rattle.fm_limit.specs.Classes.{IsClass, IsCoboundaryAfter, IsZeroClass, IsEnoughMoves, AnnihilatesClasses, IsOntoAfter, vector_in}
+use Rattle.fm_algebra.specs.PolynomialMatrices.{PolynomialMatrix, HasShape, matrix_scalar, matrix_twist, InImage, GeneratesPreimage}
+use Rattle.fm_algebra.proofs.ListImages.{through}
+use Rattle.fm_limit.specs.ResolvedIdeal.{ResolvedIdeal, matrix_at, rank, InIdeal, IsResolutionOf}
+use Rattle.fm_limit.specs.Classes.{IsClass, IsCoboundaryAfter, AnnihilatesClasses, IsOntoAfter, vector_in}
 use Rattle.fm_limit.specs.Facts.{ColumnsInImage, IsEverything, IsFirstRepeat, AreCoordinates, PresentsExt, DegreeFacts, MapFacts, JoinFacts, IsColons}
-use Rattle.fm_limit.specs.Verdicts.{IsLeast, Verdict, zero_limit, zero_class, inverting, support, root, induced_map, member, resolution, ext, Holds, HoldsOfOnto}
-use Rattle.fm_limit.proofs.Vanishing.{killed_more, scalar_more}
+use Rattle.fm_limit.specs.Verdicts.{IsLeast, zero_limit, zero_class, inverting, support, root, induced_map, member, resolution, ext, Holds, HoldsOfOnto}
+use Rattle.fm_limit.proofs.Vanishing.{killed_more}
 use Rattle.fm_limit.proofs.FactsRead.{matrices_laws, moves_read}
 use Rattle.fm_limit.proofs.Waist as waist
 use Rattle.fm_limit.proofs.Waist.{zero_fact, least_fact, killed_fact, zero_class_fact, root_fact, annihilates_fact, vanishes_fact, support_fact, power_more}

@@ -1,27 +1,27 @@
 -- From the finite facts of a degree to what is said of the limit
-use Rattle.std.proofs.Common.{ℕ, zero, suc, ◌+◌, ◌<◌, ◌≤◌, ◌≡◌, ◌∙◌, ◌↔◌, min, refl, sym, ap, ap₂, subst, arith, List, [], ◌∷◌, length, get_or}
+use Rattle.std.proofs.Common.{ℕ, zero, suc, ◌+◌, ◌≤◌, ◌≡◌, ◌∙◌, ◌↔◌, min, refl, sym, ap, subst, arith, List, [], ◌∷◌, length}
 use Rattle.fm_gfp.specs.Primes.{prime_value}
 use Rattle.fm_gfp.specs.declared.prime.Prime.{Prime}
-use Rattle.fm_algebra.specs.Matrix.{Matrix, IsShaped, component, scalar_matrix}
-use Rattle.fm_algebra.specs.Families.{only, Mat, mul, unit, each, scalar, read, vector, element}
-use Rattle.fm_algebra.specs.Image.{InImage, Everything, SameImage, Generates, pow}
+use Rattle.fm_algebra.specs.Matrix.{component}
+use Rattle.fm_algebra.specs.Families.{only, Mat, mul, each, scalar, read, vector, element}
+use Rattle.fm_algebra.specs.Image.{InImage, Everything, SameImage, pow}
 use Rattle.fm_algebra.specs.Polynomials.{Polynomial, polynomials, polynomial_power, frobenius_twist}
 use Rattle.fm_algebra.specs.PolynomialMatrices as words
 use Rattle.fm_algebra.specs.PolynomialMatrices.{PolynomialMatrix, HasShape, matrix_unit, matrix_scalar, matrix_twist, vector_product, InKernel, InPreimage}
 use Rattle.fm_algebra.proofs.Concrete.{polynomials_laws}
 use Rattle.fm_algebra.proofs.Tables.{unit_shaped, read_scalar, scalar_shaped, vector_apply}
-use Rattle.fm_algebra.proofs.Images.{everything_columns, within_columns, columns_within}
+use Rattle.fm_algebra.proofs.Images.{everything_columns, within_columns}
 use Rattle.fm_algebra.proofs.FamilyPowers.{single, element_power}
 use Rattle.fm_algebra.proofs.ListImages.{through, turned, list_image}
 use Rattle.fm_limit.specs.DirectSystem.{IsKilledBy, IsZeroInLimit}
-use Rattle.fm_limit.specs.ResolvedIdeal.{ResolvedIdeal, matrix_at, columns_of, rank, row, InIdeal}
+use Rattle.fm_limit.specs.ResolvedIdeal.{ResolvedIdeal, matrix_at, columns_of, row, InIdeal}
 use Rattle.fm_limit.specs.Limit.{IsRoot}
-use Rattle.fm_limit.specs.Classes.{matrices, degree_in, length_in, vector_in, IsClass, IsCoboundaryAfter, IsZeroClass, IsZeroLimit, VanishesAfterInverting, AnnihilatesClasses, IsEnoughMoves, IsRootOf, IsSupportIdealOf}
-use Rattle.fm_limit.specs.Facts.{ColumnsInImage, IsEverything, IsFirstRepeat, AreCoordinates, DegreeFacts, IsColons}
+use Rattle.fm_limit.specs.Classes.{matrices, degree_in, length_in, vector_in, IsCoboundaryAfter, IsZeroClass, IsZeroLimit, VanishesAfterInverting, AnnihilatesClasses, IsEnoughMoves, IsRootOf, IsSupportIdealOf}
+use Rattle.fm_limit.specs.Facts.{ColumnsInImage, IsEverything, IsFirstRepeat, AreCoordinates, DegreeFacts}
 use Rattle.fm_limit.specs.Verdicts.{IsLeast}
-use Rattle.fm_limit.proofs.Moves.{coords, killed_exactly, zero_exactly, is_root, zero_limit}
+use Rattle.fm_limit.proofs.Moves.{killed_exactly, zero_exactly, is_root, zero_limit}
 use Rattle.fm_limit.proofs.Vanishing.{stable_least, annihilates_exactly, vanishes_exactly, support_exactly, scalar_more}
-use Rattle.fm_limit.proofs.FactsRead.{matrices_laws, matrices_flat, matrices_power, row_fits, unit_read, twist_read, twist_fits, preimage_from, columns_from, member, member_fits, moves_read, facts_read}
+use Rattle.fm_limit.proofs.FactsRead.{matrices_laws, matrices_flat, matrices_power, row_fits, unit_read, twist_read, twist_fits, columns_from, member, member_fits, moves_read, facts_read}
 
 module _ (p : Prime) (n : ℕ) where
   -- ---- words of lists

@@ -1,12 +1,12 @@
 -- The limit of a resolved ideal of GF(p)[x1 .. xn] in degree i, in the words that contracts cite.
-use Rattle.std.specs.Prelude.{ℕ, zero, suc, ◌+◌, ◌≤◌, ◌≡◌, ◌↔◌, List, length}
+use Rattle.std.specs.Prelude.{ℕ, ◌≡◌, List, length}
 use Rattle.fm_gfp.specs.declared.prime.Prime.{Prime}
 use Rattle.fm_algebra.specs.Matrices.{Matrices}
 use Rattle.fm_algebra.specs.Families.{add, neg, families, read, vector, element}
-use Rattle.fm_algebra.specs.Polynomials.{Polynomial, polynomials, polynomial_power, frobenius_twist}
+use Rattle.fm_algebra.specs.Polynomials.{Polynomial, polynomials, frobenius_twist}
 use Rattle.fm_algebra.specs.PolynomialMatrices.{PolynomialMatrix, matrix_transpose, matrix_twist, vector_product}
 use Rattle.fm_algebra.specs.Image as image
-use Rattle.fm_limit.specs.Resolution.{rank_of, Complex}
+use Rattle.fm_limit.specs.Resolution.{Complex}
 use Rattle.fm_limit.specs.DirectSystem.{Degree, degree, IsCocycle, IsCoboundary, IsKilledBy, IsZeroInLimit, IsSameInLimit}
 use Rattle.fm_limit.specs.Limit.{LimitIsZero, VanishesInverting, Annihilates, IsEnough, InducedMapIsZero, InducedMapIsOneToOne, InducedMapIsOnto, IsOntoBy, IsRoot, IsSupportIdeal}
 use Rattle.fm_limit.specs.ResolvedIdeal.{ResolvedIdeal, matrix_at, columns_of, rank, row}

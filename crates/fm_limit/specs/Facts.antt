@@ -1,5 +1,5 @@
 -- The finite facts from which verdicts on the limit follow: what deciding and checking establish.
-use Rattle.std.specs.Prelude.{ℕ, zero, suc, ◌+◌, ◌<◌, ◌≤◌, ◌≡◌, ◌↔◌, ◌⊎◌, List, [], ◌∷◌, length, get_or}
+use Rattle.std.specs.Prelude.{ℕ, zero, suc, ◌+◌, ◌<◌, ◌≤◌, ◌≡◌, ◌↔◌, List, [], length, get_or}
 use Rattle.fm_gfp.specs.declared.prime.Prime.{Prime}
 use Rattle.fm_algebra.specs.Polynomials.{Polynomial}
 use Rattle.fm_algebra.specs.PolynomialMatrices.{PolynomialMatrix, HasShape, matrix_product, matrix_unit, matrix_scalar, vector_product, matrix_beside, matrix_transpose, matrix_twist, InImage, GeneratesKernel, GeneratesPreimage}

@@ -3,7 +3,7 @@ use Rattle.std.specs.Prelude.{ℕ, zero, suc, ◌+◌, ◌<◌, ◌≡◌, ◌�
 use Rattle.fm_gfp.specs.declared.prime.Prime.{Prime}
 use Rattle.fm_algebra.specs.Polynomials.{Polynomial}
 use Rattle.fm_algebra.specs.PolynomialMatrices.{PolynomialMatrix, HasShape, matrix_product, matrix_unit, matrix_zero, matrix_column, matrix_transpose, matrix_twist, InImage, GeneratesKernel}
-use Rattle.fm_limit.specs.Resolution.{rank_of, rank_before}
+use Rattle.fm_limit.specs.Resolution.{rank_of}
 
 -- generators of an ideal I, matrices d_1 .. d_(i+1), and matrices theta_0 .. theta_i
 pub record ResolvedIdeal (p : Prime) (n : ℕ) : Type 0 where
