@@ -1,28 +1,13 @@
 -- Products and twists of small polynomials
-use Rattle.std.proofs.Common.{◌≡◌, ℕ, ◌*◌, List, [], ◌∷◌, ◌++◌, map, refl, ap, ap₂, sym, ◌∙◌}
-use Rattle.fm_tuple.specs.Tuple.{tuple_sum}
+use Rattle.std.proofs.Common.{◌≡◌, ℕ, List, [], ◌∷◌, refl, ap, sym, ◌∙◌}
 use Rattle.fm_gfp.specs.declared.prime.Prime.{Prime}
 use Rattle.fm_gfp.specs.declared.prime.Prime.TheVariants.{Two, Three, Five}
 use Rattle.fm_algebra.specs.Power.{power}
-use Rattle.fm_algebra.specs.Polynomials.{polynomials, AllFit, coefficient, polynomial_zero, polynomial_sum, polynomial_product, polynomial_power, polynomial_of, frobenius_twist}
-use Rattle.fm_algebra.proofs.Algebra.{zero_mul, add_mul, mul_one}
+use Rattle.fm_algebra.specs.Polynomials.{polynomials, coefficient, polynomial_sum, polynomial_product, polynomial_power, polynomial_of, frobenius_twist}
+use Rattle.fm_algebra.proofs.Algebra.{mul_one}
 use Rattle.fm_algebra.proofs.Concrete.{polynomials_laws}
-use Rattle.fm_algebra.proofs.TermWords.{shifted_terms, term_times, of_append, coefficient_of, of_like, of_drop, of_modulo, of_swap}
+use Rattle.fm_algebra.proofs.TermWords.{of_product, of_append, coefficient_of, of_like, of_drop, of_modulo, of_swap}
 use Rattle.fm_algebra.proofs.TwistWords.{twist_of_terms}
-
--- each term times each term
-abbrev pub product_terms : List (List ℕ × ℕ) → List (List ℕ × ℕ) → List (List ℕ × ℕ)
-product_terms [] us = []
-product_terms (t ∷ ts) us = map (λ u. (tuple_sum t.0 u.0, t.1 * u.1)) us ++ product_terms ts us
-
-pub of_product : (p : Prime) (n : ℕ) (ts us : List (List ℕ × ℕ)) → AllFit n ts → AllFit n us
-    → polynomial_product p n (polynomial_of p n ts) (polynomial_of p n us) ≡ polynomial_of p n (product_terms ts us)
-unfolding polynomial_of polynomial_product polynomial_zero polynomial_sum
-of_product p n [] us f g = zero_mul (polynomials_laws p n) (polynomial_of p n us)
-of_product p n (t ∷ ts) us f g =
-    add_mul (polynomials_laws p n) _ (polynomial_of p n ts) (polynomial_of p n us)
-    ∙ ap₂ (polynomials p n).add (term_times p n t.1 t.0 us f.0 g) (of_product p n ts us f.1 g)
-    ∙ sym (of_append p n (shifted_terms p n t.1 t.0 us) (product_terms ts us))
 
 -- the same first term
 of_rest : (p : Prime) (n : ℕ) (t : List ℕ × ℕ) (us vs : List (List ℕ × ℕ)) → polynomial_of p n us ≡ polynomial_of p n vs → polynomial_of p n (t ∷ us) ≡ polynomial_of p n (t ∷ vs)

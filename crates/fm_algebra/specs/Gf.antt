@@ -15,6 +15,7 @@ pub record Residue (m : ℕ) : Type 0 where
   pub number : ℕ
   pub below : number < m
 
+-- residues with the same number are equal
 pub same_residue : {m : ℕ} (a b : Residue m) → a.number ≡ b.number → a ≡ b
 same_residue {m} a b e =
     let pairs : ◌≡◌ {A = (n : ℕ) × (n < m)} (a.number, a.below) (b.number, b.below) = Σ_prop_path (λ n. le_prop) e in
