@@ -1,17 +1,16 @@
 -- The limit does not depend on the resolution, the Frobenius lift or the lift of the identity
-use Rattle.std.proofs.Common.{ℕ, zero, suc, ◌+◌, ◌<◌, ◌≤◌, ◌≡◌, ◌↔◌, ◌∙◌, refl, sym, ap, subst, arith, add-zero}
+use Rattle.std.proofs.Common.{ℕ, zero, suc, ◌+◌, ◌<◌, ◌≤◌, ◌≡◌, ◌∙◌, refl, sym, ap, subst, arith, add-zero}
 use native.Mathlib.Decide.{dec_le}
 use native.Mathlib.Bridge.{le_prop}
 use Rattle.fm_algebra.specs.Matrices.{Matrices, IsMatrices}
-use Rattle.fm_algebra.specs.Image.{InImage, SameImage, IsPower, pow}
-use Rattle.fm_algebra.proofs.Images.{image_add, image_nil, image_neg, image_trans, within_columns, columns_within, nil_add, neg_unique, sub_add, mul_neg, kernel_product, kernel_matrix, mul_nil}
-use Rattle.fm_limit.specs.Resolution.{rank_of, d_below, Complex}
-use Rattle.fm_limit.proofs.Resolutions.{IsResolution, IsFrobeniusLift, IsLiftOfIdentity}
-use Rattle.fm_limit.specs.DirectSystem.{degree, Degree, IsCocycle, IsCoboundary, move, moved, IsKilledBy, IsZeroInLimit, IsSameInLimit}
-use Rattle.fm_limit.specs.Limit.{mapped, LimitIsZero, VanishesInverting, Annihilates, IsEnough, IsSupportIdeal, InducedMapIsZero, InducedMapIsOneToOne, InducedMapIsOnto}
-use Rattle.fm_limit.proofs.Moves.{Moves, dual, cocycle_moves, cocycles_moves, coboundary_cocycle, coboundaries_moves, moved_add, moved_neg}
-use Rattle.fm_limit.proofs.Maps.{Maps, mapped_coboundary, mapped_move, mapped_cocycle}
-use Rattle.fm_limit.proofs.Homotopy.{lift_moves, lift_maps, identities_differ, upper_square}
+use Rattle.fm_algebra.specs.Image.{InImage}
+use Rattle.fm_algebra.proofs.Images.{image_add, image_nil, image_neg, image_trans, within_columns, nil_add, neg_unique, sub_add, mul_neg, kernel_product, kernel_matrix, mul_nil}
+use Rattle.fm_limit.specs.Resolution.{rank_of, Complex}
+use Rattle.fm_limit.proofs.Resolutions.{IsResolution, IsLiftOfIdentity}
+use Rattle.fm_limit.specs.DirectSystem.{Degree, IsCocycle, IsCoboundary, move, moved, IsKilledBy, IsZeroInLimit}
+use Rattle.fm_limit.specs.Limit.{mapped}
+use Rattle.fm_limit.proofs.Moves.{Moves, cocycle_moves, coboundaries_moves, moved_add, moved_neg}
+use Rattle.fm_limit.proofs.Maps.{Maps, mapped_coboundary, mapped_move}
 
 -- s moves of (e, z) and s' moves of (e', z') come to one stage, where they differ by a coboundary
 abbrev pub IsSameBy : {M : Matrices} (D : Degree M) (s s' e : ℕ) (z : M.Mat D.mid 1) (e' : ℕ) (z' : M.Mat D.mid 1) → Type 0

@@ -1,13 +1,13 @@
 -- Ideals with resolutions and lifts: what is said of the limit does not depend on them
-use Rattle.std.proofs.Common.{ℕ, zero, suc, ◌+◌, ◌<◌, ◌≤◌, ◌≡◌, ◌↔◌, ◌∙◌, refl, sym, ap, subst, arith}
+use Rattle.std.proofs.Common.{ℕ, zero, ◌+◌, ◌<◌, ◌≡◌, ◌↔◌, ◌∙◌, sym, ap, subst, arith}
 use Rattle.fm_algebra.specs.Matrices.{Matrices, IsMatrices}
 use Rattle.fm_algebra.specs.Image.{InImage, IsPower, pow}
-use Rattle.fm_algebra.proofs.Images.{image_trans, image_add, image_neg, nil_mul}
-use Rattle.fm_limit.specs.Resolution.{rank_of, rank_before, d_below, Complex}
+use Rattle.fm_algebra.proofs.Images.{image_add, image_neg, nil_mul}
+use Rattle.fm_limit.specs.Resolution.{rank_of, d_below, Complex}
 use Rattle.fm_limit.proofs.Resolutions.{IsResolution, IsFrobeniusLift, IsLiftOfIdentity}
-use Rattle.fm_limit.specs.DirectSystem.{degree, Degree, IsCocycle, IsCoboundary, moved, IsKilledBy, IsZeroInLimit, IsSameInLimit}
+use Rattle.fm_limit.specs.DirectSystem.{degree, Degree, IsCocycle, IsCoboundary, moved, IsKilledBy, IsZeroInLimit}
 use Rattle.fm_limit.specs.Limit.{mapped, LimitIsZero, VanishesInverting, Annihilates, IsEnough, IsSupportIdeal, InducedMapIsZero, InducedMapIsOneToOne, InducedMapIsOnto, IsOntoBy}
-use Rattle.fm_limit.proofs.Moves.{Moves, dual, moved_times}
+use Rattle.fm_limit.proofs.Moves.{Moves, dual}
 use Rattle.fm_limit.proofs.Maps.{Maps, mapped_coboundary, mapped_cocycle}
 use Rattle.fm_limit.proofs.Homotopy.{lift_moves, lift_maps, identities_differ, upper_square}
 use Rattle.fm_limit.proofs.Independence.{IsSameBy, neg_sub, sub_chain, flip_unit, killed_near, zero_near, mapped_killed, mapped_zero, mapped_sub, mapped_same, same_near, same_turned, lift_after, lift_itself, lift_exists}
@@ -152,7 +152,7 @@ module _ {M : Matrices} (L : IsMatrices M) (p : ℕ) (positive : zero < p) (powe
   )
 
   -- ---- induced maps: A and A2 resolve one ideal, B and B2 one that it lies in
-  module _ (A B A2 B2 : Resolved M i) (aa : Inside A A2) (a2 : Inside A2 A) (bb : Inside B B2) (b2 : Inside B2 B) (inside : Inside A B) (k : Family A B) (k2 : Family A2 B2) (kl : IsLift A B k) (kl2 : IsLift A2 B2 k2) where
+  module _ (A B A2 B2 : Resolved M i) (aa : Inside A A2) (a2 : Inside A2 A) (bb : Inside B B2) (b2 : Inside B2 B) (k : Family A B) (k2 : Family A2 B2) (kl : IsLift A B k) (kl2 : IsLift A2 B2 k2) (to_classes : (e : ℕ) (z : Mat (rank_of (B.P).cols i) 1) → IsCocycle M (degree_of B) e z → IsCocycle M (degree_of A) e (carried A B k e z)) where
     up : (l : Family A2 A) × IsLift A2 A l
     up = lift_exists L i A2.P A.P A2.resolves A.resolves a2
 
@@ -181,7 +181,7 @@ module _ {M : Matrices} (L : IsMatrices M) (p : ℕ) (positive : zero < p) (powe
     source_class e z c = carried_class B B2 down.0 down.1 bb e z c
 
     image_class : (e : ℕ) (z : Mat (rank_of (B.P).cols i) 1) → IsCocycle M (degree_of B) e z → IsCocycle M (degree_of A) e (carried A B k e z)
-    image_class e z c = carried_class A B k kl inside e z c
+    image_class e z c = to_classes e z c
 
     pub same_map_zero : InducedMapIsZero M (degree_of B) (degree_of A) (k i) → InducedMapIsZero M (degree_of B2) (degree_of A2) (k2 i)
     same_map_zero f e z c =
@@ -238,8 +238,7 @@ module _ {M : Matrices} (L : IsMatrices M) (p : ℕ) (positive : zero < p) (powe
         let r = f y (carried_class A A2 up_back.0 up_back.1 aa zero z c) in
         let q : s ≡ zero + s = omega arith in
         let n : zero + s ≡ s + zero = omega arith in
-        let h = carried_same s zero zero z c s r.0 r.1 (n, subst (λ e. IsCoboundary M (degree_of A) e (moved M (degree_of A) s zero y ⊕ neg (carried A B k s r.0))) q r.2) in
-        (
+        let h = carried_same s zero zero z c s r.0 r.1 (n, subst (λ e. IsCoboundary M (degree_of A) e (moved M (degree_of A) s zero y ⊕ neg (carried A B k s r.0))) q r.2) in (
           carried B2 B down_back.0 s r.0,
           carried_class B2 B down_back.0 down_back.1 b2 s r.0 r.1,
           subst (λ e. IsCoboundary M (degree_of A2) e (moved M (degree_of A2) s zero z ⊕ neg (carried A2 B2 k2 s (carried B2 B down_back.0 s r.0)))) (sym q) h.1,

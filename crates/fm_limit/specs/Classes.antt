@@ -1,13 +1,13 @@
 -- The limit of a resolved ideal of GF(p)[x1 .. xn] in degree i, in the words that contracts cite.
-use Rattle.std.specs.Prelude.{ℕ, zero, suc, ◌+◌, ◌≤◌, ◌≡◌, ◌↔◌, List, length}
+use Rattle.std.specs.Prelude.{ℕ, ◌≡◌, List, length}
 use Rattle.fm_gfp.specs.declared.prime.Prime.{Prime}
 use Rattle.fm_algebra.specs.Matrices.{Matrices}
-use Rattle.fm_algebra.specs.Families.{families, read, vector, element}
-use Rattle.fm_algebra.specs.Polynomials.{Polynomial, polynomials, polynomial_power, frobenius_twist}
-use Rattle.fm_algebra.specs.PolynomialMatrices.{PolynomialMatrix}
+use Rattle.fm_algebra.specs.Families.{add, neg, families, read, vector, element}
+use Rattle.fm_algebra.specs.Polynomials.{Polynomial, polynomials, frobenius_twist}
+use Rattle.fm_algebra.specs.PolynomialMatrices.{PolynomialMatrix, matrix_transpose, matrix_twist, vector_product}
 use Rattle.fm_algebra.specs.Image as image
-use Rattle.fm_limit.specs.Resolution.{rank_of, Complex}
-use Rattle.fm_limit.specs.DirectSystem.{Degree, degree, IsCocycle, IsKilledBy, IsZeroInLimit, IsSameInLimit}
+use Rattle.fm_limit.specs.Resolution.{Complex}
+use Rattle.fm_limit.specs.DirectSystem.{Degree, degree, IsCocycle, IsCoboundary, IsKilledBy, IsZeroInLimit, IsSameInLimit}
 use Rattle.fm_limit.specs.Limit.{LimitIsZero, VanishesInverting, Annihilates, IsEnough, InducedMapIsZero, InducedMapIsOneToOne, InducedMapIsOnto, IsOntoBy, IsRoot, IsSupportIdeal}
 use Rattle.fm_limit.specs.ResolvedIdeal.{ResolvedIdeal, matrix_at, columns_of, rank, row}
 
@@ -48,6 +48,14 @@ module _ (p : Prime) (n : ℕ) where
   pub record IsClass (i : ℕ) (I : ResolvedIdeal p n) (e : ℕ) (z : List (Polynomial p n)) : Type 0 where
     pub fits : length z ≡ length_in i I
     pub cocycle : IsCocycle (matrices p n) (degree_in i I) e (vector_in i I z)
+
+  -- the vectors x and y differ by a coboundary of stage e
+  unfoldable pub AreCohomologous : (i : ℕ) (I : ResolvedIdeal p n) (e : ℕ) (x y : List (Polynomial p n)) → Type 0
+  AreCohomologous i I e x y = IsCoboundary (matrices p n) (degree_in i I) e (add (polynomials p n) (vector_in i I x) (neg (polynomials p n) (vector_in i I y)))
+
+  -- one move of (e, z), to stage e + 1: the transpose of theta_i^[q] times z
+  unfoldable pub moved_once : (i : ℕ) (I : ResolvedIdeal p n) (e : ℕ) → List (Polynomial p n) → List (Polynomial p n)
+  moved_once i I e z = vector_product p n (matrix_transpose p n (matrix_twist p n e (matrix_at p n I.lift i))) z
 
   -- s moves make (e, z) a coboundary
   unfoldable pub IsCoboundaryAfter : (i : ℕ) (I : ResolvedIdeal p n) (s e : ℕ) → List (Polynomial p n) → Type 0
@@ -90,6 +98,10 @@ module _ (p : Prime) (n : ℕ) where
   -- ---- the map from the classes of J to those of I that a lift ls of the identity, from the resolution of I to that of J, induces
   abbrev pub lambda_in : (i : ℕ) (J I : ResolvedIdeal p n) (ls : List (PolynomialMatrix p n)) → (matrices p n).Mat (length_in i J) (length_in i I)
   lambda_in i J I ls = lambda_of I.differentials J.differentials ls i
+
+  -- the image of (e, z): the transpose of lambda_i^[q] times z
+  unfoldable pub image_of : (i : ℕ) (ls : List (PolynomialMatrix p n)) (e : ℕ) → List (Polynomial p n) → List (Polynomial p n)
+  image_of i ls e z = vector_product p n (matrix_transpose p n (matrix_twist p n e (matrix_at p n ls i))) z
 
   -- every image is zero in the limit
   unfoldable pub IsZeroMap : (i : ℕ) (J I : ResolvedIdeal p n) → List (PolynomialMatrix p n) → Type 0

@@ -3,7 +3,7 @@ use Rattle.std.specs.Prelude.{ℕ, zero, suc, ◌+◌, ◌<◌, ◌≡◌, ◌�
 use Rattle.fm_gfp.specs.declared.prime.Prime.{Prime}
 use Rattle.fm_algebra.specs.Polynomials.{Polynomial}
 use Rattle.fm_algebra.specs.PolynomialMatrices.{PolynomialMatrix, HasShape, matrix_product, matrix_unit, matrix_zero, matrix_column, matrix_transpose, matrix_twist, InImage, GeneratesKernel}
-use Rattle.fm_limit.specs.Resolution.{rank_of, rank_before}
+use Rattle.fm_limit.specs.Resolution.{rank_of}
 
 -- generators of an ideal I, matrices d_1 .. d_(i+1), and matrices theta_0 .. theta_i
 pub record ResolvedIdeal (p : Prime) (n : ℕ) : Type 0 where
@@ -36,6 +36,10 @@ module _ (p : Prime) (n : ℕ) where
   -- f lies in the ideal that the given polynomials generate
   unfoldable pub InIdeal : List (Polynomial p n) → Polynomial p n → Type 0
   InIdeal fs f = InImage p n (row fs) (f ∷ [])
+
+  -- the ideal of fs lies in that of gs
+  abbrev pub LiesIn : (fs gs : List (Polynomial p n)) → Type 0
+  LiesIn fs gs = (f : Polynomial p n) → InIdeal fs f → InIdeal gs f
 
   -- ds is a resolution d_1 .. d_(i+1) of the ideal of the given generators through degree i: the entries of d_1 generate the
   -- ideal, and ker d_j = im d_(j+1) for j from 1 to i (any textbook of homological algebra).

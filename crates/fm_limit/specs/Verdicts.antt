@@ -25,7 +25,7 @@ pub data Verdict (p : Prime) (n : ℕ) : Type 0 where
   -- a root of the given rank, and t moves are what it takes
   root : (i : ℕ) (I : ResolvedIdeal p n) (Z K U : PolynomialMatrix p n) (g t : ℕ) → Verdict p n
   -- the map from the limit of the source to that of the target: zero, one to one, onto (with the number of moves that it takes)
-  induced_map : (i : ℕ) (source target : ResolvedIdeal p n) (ls : List (PolynomialMatrix p n)) (zero one : Bool) (onto : Option ℕ) → Verdict p n
+  induced_map : (i : ℕ) (source target : ResolvedIdeal p n) (ls : List (PolynomialMatrix p n)) (is_zero is_one : Bool) (onto : Option ℕ) → Verdict p n
   -- f lies in the ideal, yes or no
   member : (fs : List (Polynomial p n)) (f : Polynomial p n) (answer : Bool) → Verdict p n
   -- a resolution with its ranks
@@ -56,7 +56,7 @@ module _ (p : Prime) (n : ℕ) where
   Holds (inverting i I f power) = HoldsOfInverting i I f power
   Holds (support i I ideal) = IsSupportIdealOf p n i I ideal × ((a : Polynomial p n) → InIdeal p n ideal a ↔ AnnihilatesClasses p n i I a)
   Holds (root i I Z K U g t) = (length Z.columns ≡ g) × IsRootOf p n i I Z K U × IsLeast (IsEnoughMoves p n i I) t
-  Holds (induced_map i source target ls zero one onto) = (IsTrue zero ↔ IsZeroMap p n i source target ls) × (IsTrue one ↔ IsOneToOneMap p n i source target ls) × HoldsOfOnto i source target ls onto
+  Holds (induced_map i source target ls is_zero is_one onto) = (IsTrue is_zero ↔ IsZeroMap p n i source target ls) × (IsTrue is_one ↔ IsOneToOneMap p n i source target ls) × HoldsOfOnto i source target ls onto
   Holds (member fs f answer) = IsTrue answer ↔ InIdeal p n fs f
   Holds (resolution fs i ds ranks) = IsResolutionOf p n fs i ds × (ranks ≡ listed (i + 2) (rank p n ds))
   Holds (ext i I Z N U g r) = (length Z.columns ≡ g) × (length N.columns ≡ r) × PresentsExt p n i I Z N U
