@@ -1,3 +1,5 @@
 pub mod Setting
 pub mod Algebra
 pub mod Span
+pub mod Buchberger
+pub mod Basis
