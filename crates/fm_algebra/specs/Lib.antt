@@ -1,2 +1,12 @@
 pub mod Ring
+pub mod Splits
+pub mod Series
+pub mod Gf
+pub mod Poly
+pub mod PolyRing
+pub mod Power
+pub mod Monomial
+pub mod Twist
+pub mod Heads
+pub mod Polynomials
 pub mod Matrices

@@ -1,0 +1,2 @@
+pub mod Binomials
+pub mod Residues
