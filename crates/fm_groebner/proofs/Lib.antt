@@ -3,3 +3,5 @@ pub mod Algebra
 pub mod Span
 pub mod Buchberger
 pub mod Basis
+pub mod Monomials
+pub mod Places
