@@ -10,3 +10,7 @@ pub mod Twist
 pub mod Heads
 pub mod Polynomials
 pub mod Matrices
+pub mod FiniteSums
+pub mod Matrix
+pub mod Families
+pub mod Image
