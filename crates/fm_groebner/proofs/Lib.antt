@@ -5,3 +5,4 @@ pub mod Buchberger
 pub mod Basis
 pub mod Monomials
 pub mod Places
+pub mod Ordered

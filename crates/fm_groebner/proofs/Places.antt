@@ -20,17 +20,17 @@ numbers_below : (n k : ℕ) → k < n → Acc ◌<◌ k
 numbers_below zero k l = absurd (omega arith)
 numbers_below (suc n) k l = Acc.intro k (λ j i. numbers_below n j (omega arith))
 
-numbers_founded : (k : ℕ) → Acc ◌<◌ k
+pub numbers_founded : (k : ℕ) → Acc ◌<◌ k
 numbers_founded k = numbers_below (suc k) k (omega arith)
 
-same_place : {n : ℕ} {k l : ℕ} {a b : Monomial n} → k ≡ l → a ≡ b → ◌≡◌ {A = ℕ × Monomial n} (k, a) (l, b)
+pub same_place : {n : ℕ} {k l : ℕ} {a b : Monomial n} → k ≡ l → a ≡ b → ◌≡◌ {A = ℕ × Monomial n} (k, a) (l, b)
 same_place e f = λ i. (e i, f i)
 
 module _ {n : ℕ} (O : MonomialOrder n) where
   abbrev pub PlaceLess : ℕ × Monomial n → ℕ × Monomial n → Type 0
   PlaceLess x y = (x.0 < y.0) ⊎ ((x.0 ≡ y.0) × O.Lower x.1 y.1)
 
-  place_compared : (x y : ℕ × Monomial n) → Trichotomy PlaceLess x y
+  pub place_compared : (x y : ℕ × Monomial n) → Trichotomy PlaceLess x y
   place_compared x y = elim (dec_lt x.0 y.0) [
     | yes l ↦ below (inl l)
     | no nl ↦ elim (dec_lt y.0 x.0) [
@@ -47,13 +47,13 @@ module _ {n : ℕ} (O : MonomialOrder n) where
       by_monomials e (same p) = same (same_place e p)
       by_monomials e (above l) = above (inr (sym e, l))
 
-  place_trans : {x y z : ℕ × Monomial n} → PlaceLess x y → PlaceLess y z → PlaceLess x z
+  pub place_trans : {x y z : ℕ × Monomial n} → PlaceLess x y → PlaceLess y z → PlaceLess x z
   place_trans {x} {y} {z} (inl l) (inl k) = inl (omega arith)
   place_trans {x} {y} {z} (inl l) (inr k) = let e : y.0 ≡ z.0 = k.0 in inl (omega arith)
   place_trans {x} {y} {z} (inr l) (inl k) = let e : x.0 ≡ y.0 = l.0 in inl (omega arith)
   place_trans {x} {y} {z} (inr l) (inr k) = inr (l.0 ∙ k.0, O.lower_trans l.1 k.1)
 
-  pairs_founded : (k : ℕ) → Acc ◌<◌ k → (a : Monomial n) → Acc PlaceLess (k, a)
+  pub pairs_founded : (k : ℕ) → Acc ◌<◌ k → (a : Monomial n) → Acc PlaceLess (k, a)
   pairs_founded k (Acc.intro k' h) = λ a. by_monomials (λ j l b. pairs_founded j (h j l) b) a (O.founded a)
     where
       by_monomials : ((j : ℕ) → j < k → (b : Monomial n) → Acc PlaceLess (j, b)) → (a : Monomial n) → Acc O.Lower a → Acc PlaceLess (k, a)
@@ -69,14 +69,14 @@ module _ {n : ℕ} (O : MonomialOrder n) where
   abbrev pub place_quotient : Monomial n → ℕ × Monomial n → Option (ℕ × Monomial n)
   place_quotient m x = place_quotient_by m x.1 x.0 (divides_dec m.exponents x.1.exponents)
 
-  quotient_at : (m : Monomial n) (x : ℕ × Monomial n) (d : Dec (TupleDivides m.exponents (m · x.1).exponents)) → place_quotient_by m (m · x.1) x.0 d ≡ Some x
+  pub quotient_at : (m : Monomial n) (x : ℕ × Monomial n) (d : Dec (TupleDivides m.exponents (m · x.1).exponents)) → place_quotient_by m (m · x.1) x.0 d ≡ Some x
   quotient_at m x (yes d) = ap (λ z. Some (x.0, z)) (times_cancel (difference (m · x.1) m) x.1 m (times_comm (difference (m · x.1) m) m ∙ times_difference m (m · x.1) d ∙ times_comm m x.1))
   quotient_at m x (no w) = absurd (w (divides_times m x.1))
 
   the_same : {A : Type 0} {x y : A} → Some x ≡ Some y → x ≡ y
   the_same e = cc
 
-  quotient_is : (m : Monomial n) (b x : ℕ × Monomial n) (d : Dec (TupleDivides m.exponents b.1.exponents)) → place_quotient_by m b.1 b.0 d ≡ Some x → ◌≡◌ {A = ℕ × Monomial n} (x.0, m · x.1) b
+  pub quotient_is : (m : Monomial n) (b x : ℕ × Monomial n) (d : Dec (TupleDivides m.exponents b.1.exponents)) → place_quotient_by m b.1 b.0 d ≡ Some x → ◌≡◌ {A = ℕ × Monomial n} (x.0, m · x.1) b
   quotient_is m b x (yes d) e = ap (λ y. (y.0, m · y.1)) (sym (the_same e)) ∙ same_place refl (times_difference m b.1 d)
   quotient_is m b x (no w) e = absurd (none e)
     where
@@ -103,7 +103,7 @@ module _ {n : ℕ} (O : MonomialOrder n) where
       quotient_at = λ m x. quotient_at m x (divides_dec m.exponents (m · x.1).exponents);
       quotient_is = λ m b x e. quotient_is m b x (divides_dec m.exponents b.1.exponents) e;
       compared = place_compared;
-      less_trans = λ {x} {y} {z} l k. place_trans {x = x} {y = y} {z = z} l k;
+      less_trans = λ {a} {b} {c} l k. place_trans {x = a} {y = b} {z = c} l k;
       less_at = λ m {a} {b} l. elim l [ inl k ↦ inl k | inr k ↦ inr (k.0, O.lower_times m k.1) ];
       founded = λ x. pairs_founded x.0 (numbers_founded x.0) x.1;
     }
