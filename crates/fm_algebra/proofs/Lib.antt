@@ -6,3 +6,15 @@ pub mod FamilyLaws
 pub mod Tables
 pub mod Images
 pub mod Flatness
+pub mod Gf
+pub mod Poly
+pub mod PolyRing
+pub mod TuplePlaces
+pub mod Spread
+pub mod Slices
+pub mod Twist
+pub mod PolySlices
+pub mod Monomial
+pub mod Binomial
+pub mod Frobenius
+pub mod Concrete

@@ -164,5 +164,6 @@ module _ {K : Ring} (L : IsRing K) where
     where
       heads : {x y : ℕ} {u v : List ℕ} → x ∷ u ≡ y ∷ v → x ≡ y
       heads z = cc
+
       tails : {x y : ℕ} {u v : List ℕ} → x ∷ u ≡ y ∷ v → u ≡ v
       tails z = cc
