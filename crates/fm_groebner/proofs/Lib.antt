@@ -6,3 +6,4 @@ pub mod Basis
 pub mod Monomials
 pub mod Places
 pub mod Ordered
+pub mod Values

@@ -1,6 +1,6 @@
 -- The setting of the proofs: a ring of coefficients, and places (module monomials) on which monomials act.
 -- Vectors are functions from places to coefficients.
-use Rattle.std.proofs.Common.{◌≡◌, ◌⊎◌, List, ◌∷◌, Option, Some, None}
+use Rattle.std.proofs.Common.{◌≡◌, ◌⊎◌, List, [], ◌∷◌, ◌++◌, map, Option, Some, None}
 use mathlib.Core.WellFounded.{Acc}
 use Rattle.fm_algebra.specs.Ring.{Ring, IsRing}
 
@@ -38,6 +38,19 @@ pub record Setting : Type 1 where
 pub data In {A : Type 0} : List A → A → Type 0 where
   here : {x : A} {xs : List A} → In (x ∷ xs) x
   there : {x y : A} {xs : List A} → In xs y → In (x ∷ xs) y
+
+pub in_left : {A : Type 0} (xs ys : List A) {x : A} → In xs x → In (xs ++ ys) x
+in_left [] ys i = elim i [ ]
+in_left (x ∷ xs) ys here = here
+in_left (x ∷ xs) ys (there i) = there (in_left xs ys i)
+
+pub in_right : {A : Type 0} (xs ys : List A) {y : A} → In ys y → In (xs ++ ys) y
+in_right [] ys i = i
+in_right (x ∷ xs) ys i = there (in_right xs ys i)
+
+pub in_map : {A B : Type 0} (f : A → B) {xs : List A} {x : A} → In xs x → In (map f xs) (f x)
+in_map f here = here
+in_map f (there i) = there (in_map f i)
 
 module _ (S : Setting) where
   open S use {Place, Monomial, ◌·◌, ◌•◌, Less, quotient}

@@ -1,7 +1,7 @@
 -- Linear spans, multiples by monomials, heads.
 use Rattle.std.proofs.Common.{◌≡◌, ◌⊎◌, inl, inr, List, [], ◌∷◌, ◌++◌, map, Option, Some, None, refl, sym, ap, ap₂, ◌∙◌, subst}
 use mathlib.Core.WellFounded.{Acc}
-use Rattle.fm_groebner.proofs.Setting.{Setting, Trichotomy, below, same, above, In, here, there, Vect, Lin, lin_zero, lin_gen, lin_comb, at_quotient, shift, Family, Multiple, Representation, Low, Anywhere, MultipleOf, Span, IsHead, IsNil, IsMonic, Divides, IsFinite}
+use Rattle.fm_groebner.proofs.Setting.{Setting, Trichotomy, below, same, above, In, here, there, in_left, in_right, in_map, Vect, Lin, lin_zero, lin_gen, lin_comb, at_quotient, shift, Family, Multiple, Representation, Low, Anywhere, MultipleOf, Span, IsHead, IsNil, IsMonic, Divides, IsFinite}
 use Rattle.fm_groebner.proofs.Algebra.{add_zero, comb_zero, comb_one, skip_zero, mul_zero}
 
 module _ (S : Setting) where
@@ -256,19 +256,6 @@ module _ (S : Setting) where
     rep_of_span f = lin_bind (λ u g. lin_eq (rep_shift g.by (λ b t. tt) (f g.member g.in_A)) g.is)
 
   -- ---- finite vectors
-  pub in_left : {A : Type 0} (xs ys : List A) {x : A} → In xs x → In (xs ++ ys) x
-  in_left [] ys i = elim i [ ]
-  in_left (x ∷ xs) ys here = here
-  in_left (x ∷ xs) ys (there i) = there (in_left xs ys i)
-
-  pub in_right : {A : Type 0} (xs ys : List A) {y : A} → In ys y → In (xs ++ ys) y
-  in_right [] ys i = i
-  in_right (x ∷ xs) ys i = there (in_right xs ys i)
-
-  pub in_map : {A B : Type 0} (f : A → B) {xs : List A} {x : A} → In xs x → In (map f xs) (f x)
-  in_map f here = here
-  in_map f (there i) = there (in_map f i)
-
   nonzero_head : (v : Vect S) (ps : List Place) → ((b : Place) → (v b ≡ 𝟘) ⊎ In ps b) → IsNil S v ⊎ ((a : Place) × IsHead S v a)
   nonzero_head v ps cover = finish (greatest ps)
     where
