@@ -7,3 +7,4 @@ pub mod Monomials
 pub mod Places
 pub mod Ordered
 pub mod Values
+pub mod Images
