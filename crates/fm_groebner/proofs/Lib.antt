@@ -8,3 +8,4 @@ pub mod Places
 pub mod Ordered
 pub mod Values
 pub mod Images
+pub mod PlaceOrder
