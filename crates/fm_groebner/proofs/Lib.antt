@@ -9,3 +9,4 @@ pub mod Ordered
 pub mod Values
 pub mod Images
 pub mod PlaceOrder
+pub mod TermValues

@@ -1,0 +1,171 @@
+-- The vectors of lists of terms: sums, multiples and heads.
+use Rattle.std.proofs.Common.{ℕ, zero, suc, ◌+◌, ◌-◌, ◌*◌, ◌%◌, ◌<◌, ◌≤◌, ◌≡◌, ◌≢◌, ◌⊎◌, inl, inr, Bool, true, false, cond, eqb, List, [], ◌∷◌, ◌++◌, map, length, refl, sym, ap, ap₂, ◌∙◌, subst, arith, Less, mod-eq_of_lt}
+use Rattle.std.proofs.lemmas.Bool.{eq-eqb, ne_eqb}
+use Rattle.std.proofs.lemmas.Nat.{mul-mod_first, mul-mod_second}
+use native.Mathlib.Nat.{zero-mod}
+use native.Mathlib.Decide.{dec_lt, ℕ_discrete}
+use Rattle.fm_gfp.specs.Primes.{prime_value}
+use Rattle.fm_gfp.specs.declared.prime.Prime.{Prime}
+use Rattle.fm_tuple.specs.Tuple.{tuple_sum}
+use Rattle.fm_mono.specs.declared.order.Order.{Order}
+use Rattle.fm_algebra.specs.Ring.{Ring, IsRing}
+use Rattle.fm_algebra.specs.Gf.{gf, gf_is_zero, Residue, residue, same_residue, prime_positive}
+use Rattle.fm_algebra.specs.Poly.{Poly, coeff}
+use Rattle.fm_algebra.specs.PolyRing.{poly}
+use Rattle.fm_algebra.specs.Monomial.{single}
+use Rattle.fm_algebra.specs.Matrix.{component, listed}
+use Rattle.fm_algebra.specs.Polynomials.{Polynomial, polynomials, polynomial_of, polynomial_sum, polynomial_term, polynomial_zero}
+use Rattle.fm_algebra.proofs.Gf.{gf_laws}
+use Rattle.fm_algebra.proofs.PolyRing.{coeff_zero, coeff_add}
+use Rattle.fm_algebra.proofs.Monomial.{coeff_monomial_at, single_same, single_other}
+use Rattle.fm_algebra.proofs.Tables.{get_or-listed, length-listed}
+use Rattle.fm_groebner.specs.Terms.{Term, IsTerm, IsAboveFirst, IsFalling, terms_in, vector_of, multiple_term, multiple_terms, scaled_term, scaled_terms}
+use Rattle.fm_groebner.proofs.Setting.{Setting, below, same, above, Vect, shift, IsHead, IsNil}
+use Rattle.fm_groebner.proofs.Algebra.{add_zero, mul_zero, neg_mul, skip_zero}
+use Rattle.fm_groebner.proofs.Span.{shift_view, shift_linear, shift_eq, at_injective, less_irrefl, not_less_of_same}
+use Rattle.fm_groebner.proofs.Monomials.{Monomial, same_monomial, ◌·◌}
+use Rattle.fm_groebner.proofs.Places.{MonomialOrder, places, same_place}
+use Rattle.fm_groebner.proofs.Ordered.{ordered}
+use Rattle.fm_groebner.proofs.PlaceOrder.{less_of_cmp}
+use Rattle.fm_groebner.proofs.Values.{component_at, component_inside, value, value_is, value_outside}
+
+module _ (p : Prime) (n m : ℕ) (o : Order) where
+  abbrev pub K : Ring
+  K = gf p
+
+  abbrev pub S : Setting
+  S = places (ordered o n) (gf p) (gf_laws p) (gf_is_zero p)
+
+  -- the vector of a list of polynomials, and of a list of terms, as a function
+  abbrev pub val : List (Polynomial p n) → Vect S
+  val v = value (ordered o n) (gf p) (gf_laws p) (gf_is_zero p) m v
+
+  abbrev pub terms_val : List Term → Vect S
+  terms_val ts = val (vector_of p n m ts)
+
+  -- a number as an element of the field
+  abbrev pub number : ℕ → K.Carrier
+  number c = residue (prime_value p) (prime_positive p) c
+
+  -- a term that stands in a vector of length m
+  pub record Fits (t : Term) : Type 0 where
+    pub positive : 0 < t.component
+    pub within : t.component ≤ m
+    pub exponents : length t.exponents ≡ n
+
+  abbrev pub place_of : (t : Term) → Fits t → ℕ × Monomial n
+  place_of t f = (m - t.component, record { exponents = t.exponents; fits = f.exponents })
+
+  pub fits_of : (t : Term) → IsTerm p n m t → Fits t
+  fits_of t i = record { positive = i.0; within = i.1; exponents = i.2 }
+
+  abbrev AllFit : List Term → Type 0
+  AllFit [] = Unit {0}
+  AllFit (t ∷ ts) = Fits t × AllFit ts
+
+  pub all_fit : (ts : List Term) → IsFalling p n m o ts → AllFit ts
+  all_fit [] f = tt
+  all_fit (t ∷ ts) f = (fits_of t f.0, all_fit ts f.2)
+
+  -- ---- the components
+  abbrev poly_in : ℕ → List Term → Polynomial p n
+  poly_in i ts = polynomial_of p n (terms_in i ts)
+
+  coeff_sum : (f g : Polynomial p n) (a : List ℕ) → coeff (polynomial_sum p n f g) a ≡ K.add (coeff f a) (coeff g a)
+  unfolding polynomial_sum
+  coeff_sum f g a = ap (λ h. h a) (coeff_add (gf p) (gf_laws p) (gf_is_zero p) n f g)
+
+  coeff_nil : (a : List ℕ) → coeff (polynomial_zero p n) a ≡ K.zero
+  unfolding polynomial_zero
+  coeff_nil a = ap (λ h. h a) (coeff_zero (gf p) (gf_laws p) (gf_is_zero p) n)
+
+  cons_by : (x : Bool) (e : List ℕ × ℕ) (rest : List (List ℕ × ℕ)) (a : List ℕ)
+      → coeff (polynomial_of p n (cond x (e ∷ rest) rest)) a ≡ K.add (coeff (polynomial_of p n (cond x (e ∷ []) [])) a) (coeff (polynomial_of p n rest) a)
+  unfolding polynomial_of
+  cons_by true e rest a = coeff_sum (polynomial_term p n e.1 e.0) (polynomial_of p n rest) a
+      ∙ ap (λ x. K.add x (coeff (polynomial_of p n rest) a)) (sym (coeff_sum (polynomial_term p n e.1 e.0) (polynomial_zero p n) a ∙ ap (K.add (coeff (polynomial_term p n e.1 e.0) a)) (coeff_nil a) ∙ add_zero (gf_laws p) (coeff (polynomial_term p n e.1 e.0) a)))
+  cons_by false e rest a = sym (ap (λ x. K.add x (coeff (polynomial_of p n rest) a)) (coeff_nil a) ∙ (gf_laws p).zero_add (coeff (polynomial_of p n rest) a))
+
+  poly_cons : (i : ℕ) (t : Term) (ts : List Term) (a : List ℕ) → coeff (poly_in i (t ∷ ts)) a ≡ K.add (coeff (poly_in i (t ∷ [])) a) (coeff (poly_in i ts) a)
+  unfolding terms_in
+  poly_cons i t ts a = cons_by (eqb t.component i) (t.exponents, t.coefficient) (terms_in i ts) a
+
+  one_by : (x : Bool) (e : List ℕ × ℕ) (a : List ℕ) → length a ≡ n → x ≡ true → coeff (polynomial_of p n (cond x (e ∷ []) [])) a ≡ single (gf p) (number e.1) e.0 a
+  unfolding polynomial_of polynomial_term
+  one_by true e a l q = coeff_sum (polynomial_term p n e.1 e.0) (polynomial_zero p n) a ∙ ap (K.add (coeff (polynomial_term p n e.1 e.0) a)) (coeff_nil a) ∙ add_zero (gf_laws p) (coeff (polynomial_term p n e.1 e.0) a)
+      ∙ coeff_monomial_at (gf p) (gf_laws p) (gf_is_zero p) n (number e.1) e.0 a l
+  one_by false e a l q = absurd (cc q)
+
+  poly_one : (i : ℕ) (t : Term) (a : List ℕ) → length a ≡ n → t.component ≡ i → coeff (poly_in i (t ∷ [])) a ≡ single (gf p) (number t.coefficient) t.exponents a
+  unfolding terms_in
+  poly_one i t a l e = one_by (eqb t.component i) (t.exponents, t.coefficient) a l (eq-eqb t.component i e)
+
+  poly_none : (i : ℕ) (t : Term) (a : List ℕ) → t.component ≢ i → coeff (poly_in i (t ∷ [])) a ≡ K.zero
+  unfolding terms_in polynomial_of
+  poly_none i t a w = ap (λ x. coeff (polynomial_of p n (cond x ((t.exponents, t.coefficient) ∷ []) [])) a) (ne_eqb t.component i w) ∙ coeff_nil a
+
+  -- ---- values
+  pub val_inside : (ts : List Term) (b : ℕ × Monomial n) → b.0 < m → terms_val ts b ≡ coeff (poly_in (m - b.0) ts) b.1.exponents
+  unfolding vector_of component
+  val_inside ts b l = value_is (ordered o n) (gf p) (gf_laws p) (gf_is_zero p) m (vector_of p n m ts) b
+      ∙ ap (λ f. coeff f b.1.exponents) (component_inside (ordered o n) (gf p) (gf_laws p) (gf_is_zero p) m b.0 (vector_of p n m ts) l
+        ∙ get_or-listed m (m - suc b.0) (polynomials p n).zero (λ i. poly_in (suc i) ts) smaller
+        ∙ ap (λ i. poly_in i ts) index)
+    where
+      smaller : m - suc b.0 < m
+      smaller = omega arith
+
+      index : suc (m - suc b.0) ≡ m - b.0
+      index = omega arith
+
+  pub val_outside : (v : List (Polynomial p n)) (b : ℕ × Monomial n) → ¬ (b.0 < m) → val v b ≡ K.zero
+  val_outside v b w = value_outside (ordered o n) (gf p) (gf_laws p) (gf_is_zero p) m v b w
+
+  pub val_cons : (t : Term) (ts : List Term) (b : ℕ × Monomial n) → terms_val (t ∷ ts) b ≡ K.add (terms_val (t ∷ []) b) (terms_val ts b)
+  val_cons t ts b = elim (dec_lt b.0 m) [
+    | yes l ↦ val_inside (t ∷ ts) b l ∙ poly_cons (m - b.0) t ts b.1.exponents ∙ sym (ap₂ K.add (val_inside (t ∷ []) b l) (val_inside ts b l))
+    | no w ↦ val_outside (vector_of p n m (t ∷ ts)) b w ∙ sym (ap₂ K.add (val_outside (vector_of p n m (t ∷ [])) b w) (val_outside (vector_of p n m ts) b w) ∙ (gf_laws p).zero_add K.zero)
+  ]
+
+  pub val_nil : (b : ℕ × Monomial n) → terms_val [] b ≡ K.zero
+  unfolding terms_in polynomial_of
+  val_nil b = elim (dec_lt b.0 m) [
+    | yes l ↦ val_inside [] b l ∙ coeff_nil b.1.exponents
+    | no w ↦ val_outside (vector_of p n m []) b w
+  ]
+
+  pub val_append : (ts us : List Term) (b : ℕ × Monomial n) → terms_val (ts ++ us) b ≡ K.add (terms_val ts b) (terms_val us b)
+  val_append [] us b = sym (ap (λ x. K.add x (terms_val us b)) (val_nil b) ∙ (gf_laws p).zero_add (terms_val us b))
+  val_append (t ∷ ts) us b = val_cons t (ts ++ us) b ∙ ap (K.add (terms_val (t ∷ []) b)) (val_append ts us b)
+      ∙ sym ((gf_laws p).add_assoc (terms_val (t ∷ []) b) (terms_val ts b) (terms_val us b)) ∙ ap (λ x. K.add x (terms_val us b)) (sym (val_cons t ts b))
+
+  -- a term has its coefficient at its place, and zero elsewhere
+  pub val_at : (t : Term) (f : Fits t) → terms_val (t ∷ []) (place_of t f) ≡ number t.coefficient
+  val_at t f = val_inside (t ∷ []) (place_of t f) inside ∙ poly_one (m - (m - t.component)) t t.exponents f.exponents back ∙ single_same (gf p) (number t.coefficient) t.exponents
+    where
+      inside : m - t.component < m
+      inside = omega (arith, f.positive, f.within)
+
+      back : t.component ≡ m - (m - t.component)
+      back = omega (arith, f.within)
+
+  pub val_other : (t : Term) (f : Fits t) (b : ℕ × Monomial n) → ¬ (b ≡ place_of t f) → terms_val (t ∷ []) b ≡ K.zero
+  val_other t f b w = elim (dec_lt b.0 m) [
+    | yes l ↦ val_inside (t ∷ []) b l ∙ elim (ℕ_discrete t.component (m - b.0)) [
+      | yes e ↦ poly_one (m - b.0) t b.1.exponents b.1.fits e
+          ∙ single_other (gf p) (number t.coefficient) t.exponents b.1.exponents (λ q. w (same_place (level l e) (same_monomial b.1 (record { exponents = t.exponents; fits = f.exponents }) q)))
+      | no d ↦ poly_none (m - b.0) t b.1.exponents d
+    ]
+    | no d ↦ val_outside (vector_of p n m (t ∷ [])) b d
+  ]
+    where
+      level : b.0 < m → t.component ≡ m - b.0 → b.0 ≡ m - t.component
+      level l e = omega arith
+
+  -- ---- multiples
+  number_times : (c d : ℕ) → number ((c * d) % prime_value p) ≡ K.mul (number c) (number d)
+  number_times c d = same_residue (number ((c * d) % prime_value p)) (K.mul (number c) (number d))
+      (ap (λ x. x % prime_value p) (sym (mul-mod_first c d (prime_value p) ∙ refl)) ∙ again)
+    where
+      again : ((c % prime_value p) * d) % prime_value p % prime_value p ≡ ((c % prime_value p) * (d % prime_value p)) % prime_value p
+      again = mod-eq_of_lt (number ((c % prime_value p) * d)).below ∙ sym (mul-mod_second (c % prime_value p) d (prime_value p))
