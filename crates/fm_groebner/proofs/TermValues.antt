@@ -59,7 +59,7 @@ module _ (p : Prime) (n m : ℕ) (o : Order) where
   pub fits_of : (t : Term) → IsTerm p n m t → Fits t
   fits_of t i = record { positive = i.0; within = i.1; exponents = i.2 }
 
-  abbrev AllFit : List Term → Type 0
+  abbrev pub AllFit : List Term → Type 0
   AllFit [] = Unit {0}
   AllFit (t ∷ ts) = Fits t × AllFit ts
 
@@ -169,3 +169,96 @@ module _ (p : Prime) (n m : ℕ) (o : Order) where
     where
       again : ((c % prime_value p) * d) % prime_value p % prime_value p ≡ ((c % prime_value p) * (d % prime_value p)) % prime_value p
       again = mod-eq_of_lt (number ((c % prime_value p) * d)).below ∙ sym (mul-mod_second (c % prime_value p) d (prime_value p))
+
+  -- is a place that of a term
+  at_place : (t : Term) (f : Fits t) (b : ℕ × Monomial n) → (b ≡ place_of t f) ⊎ ¬ (b ≡ place_of t f)
+  at_place t f b = elim (S.compared b (place_of t f)) [
+    | below l ↦ inr (λ e. not_less_of_same S e l)
+    | same e ↦ inl e
+    | above l ↦ inr (λ e. not_less_of_same S (sym e) l)
+  ]
+
+  abbrev pub fits_multiple : (c : ℕ) (a : Monomial n) (t : Term) → Fits t → Fits (multiple_term p c a.exponents t)
+  fits_multiple c a t f = record { positive = f.positive; within = f.within; exponents = (a · record { exponents = t.exponents; fits = f.exponents }).fits }
+
+  term_multiple : (c : ℕ) (a : Monomial n) (t : Term) → Fits t → (b : ℕ × Monomial n)
+      → terms_val (multiple_term p c a.exponents t ∷ []) b ≡ K.mul (number c) (shift S a (terms_val (t ∷ [])) b)
+  term_multiple c a t f b = elim (shift_view S a b) [
+    | inl q ↦ moved q.0 q.1 (at_place t f q.0) ∙ ap (K.mul (number c)) (sym (q.2 (terms_val (t ∷ []))))
+    | inr q ↦ val_other (multiple_term p c a.exponents t) (fits_multiple c a t f) b (λ e. q.0 (place_of t f) (moved_place ∙ sym e))
+        ∙ sym (mul_zero (gf_laws p) (number c)) ∙ ap (K.mul (number c)) (sym (q.1 (terms_val (t ∷ []))))
+  ]
+    where
+      moved_place : ◌≡◌ {A = ℕ × Monomial n} (m - t.component, a · record { exponents = t.exponents; fits = f.exponents }) (place_of (multiple_term p c a.exponents t) (fits_multiple c a t f))
+      moved_place = refl
+
+      moved : (x : ℕ × Monomial n) → S.◌•◌ a x ≡ b → (x ≡ place_of t f) ⊎ ¬ (x ≡ place_of t f) → terms_val (multiple_term p c a.exponents t ∷ []) b ≡ K.mul (number c) (terms_val (t ∷ []) x)
+      moved x e (inl q) = ap (terms_val (multiple_term p c a.exponents t ∷ [])) (sym e ∙ ap (S.◌•◌ a) q) ∙ val_at (multiple_term p c a.exponents t) (fits_multiple c a t f)
+          ∙ number_times c t.coefficient ∙ ap (K.mul (number c)) (sym (ap (terms_val (t ∷ [])) q ∙ val_at t f))
+      moved x e (inr w) = val_other (multiple_term p c a.exponents t) (fits_multiple c a t f) b (λ q. w (at_injective S a x (place_of t f) (e ∙ q)))
+          ∙ sym (ap (K.mul (number c)) (val_other t f x w) ∙ mul_zero (gf_laws p) (number c))
+
+  shift_sum : (a : Monomial n) (t : Term) (ts : List Term) (b : ℕ × Monomial n)
+      → shift S a (terms_val (t ∷ ts)) b ≡ K.add (shift S a (terms_val (t ∷ [])) b) (shift S a (terms_val ts) b)
+  shift_sum a t ts b = (shift_linear S a).on_comb K.one (terms_val (t ∷ [])) (terms_val ts) (terms_val (t ∷ ts))
+        (λ c. val_cons t ts c ∙ ap (λ x. K.add x (terms_val ts c)) (sym ((gf_laws p).one_mul (terms_val (t ∷ []) c)))) b
+      ∙ ap (λ x. K.add x (shift S a (terms_val ts) b)) ((gf_laws p).one_mul (shift S a (terms_val (t ∷ [])) b))
+
+  -- the vector of the terms of c * x^a times a vector
+  pub val_multiple : (c : ℕ) (a : Monomial n) (ts : List Term) → AllFit ts → (b : ℕ × Monomial n)
+      → terms_val (multiple_terms p c a.exponents ts) b ≡ K.mul (number c) (shift S a (terms_val ts) b)
+  val_multiple c a [] f b = val_nil b ∙ sym (ap (K.mul (number c)) ((shift_linear S a).on_zero (terms_val []) val_nil b) ∙ mul_zero (gf_laws p) (number c))
+  val_multiple c a (t ∷ ts) f b = val_cons (multiple_term p c a.exponents t) (multiple_terms p c a.exponents ts) b
+      ∙ ap₂ K.add (term_multiple c a t f.0 b) (val_multiple c a ts f.1 b)
+      ∙ sym (ap (K.mul (number c)) (shift_sum a t ts b) ∙ (gf_laws p).mul_add (number c) (shift S a (terms_val (t ∷ [])) b) (shift S a (terms_val ts) b))
+
+  abbrev pub fits_scaled : (c : ℕ) (t : Term) → Fits t → Fits (scaled_term p c t)
+  fits_scaled c t f = record { positive = f.positive; within = f.within; exponents = f.exponents }
+
+  term_scaled : (c : ℕ) (t : Term) → Fits t → (b : ℕ × Monomial n) → terms_val (scaled_term p c t ∷ []) b ≡ K.mul (number c) (terms_val (t ∷ []) b)
+  term_scaled c t f b = elim (at_place t f b) [
+    | inl e ↦ ap (terms_val (scaled_term p c t ∷ [])) e ∙ val_at (scaled_term p c t) (fits_scaled c t f) ∙ number_times c t.coefficient
+        ∙ ap (K.mul (number c)) (sym (ap (terms_val (t ∷ [])) e ∙ val_at t f))
+    | inr w ↦ val_other (scaled_term p c t) (fits_scaled c t f) b w ∙ sym (ap (K.mul (number c)) (val_other t f b w) ∙ mul_zero (gf_laws p) (number c))
+  ]
+
+  -- the vector of the terms of c times a vector
+  pub val_scaled : (c : ℕ) (ts : List Term) → AllFit ts → (b : ℕ × Monomial n) → terms_val (scaled_terms p c ts) b ≡ K.mul (number c) (terms_val ts b)
+  val_scaled c [] f b = val_nil b ∙ sym (ap (K.mul (number c)) (val_nil b) ∙ mul_zero (gf_laws p) (number c))
+  val_scaled c (t ∷ ts) f b = val_cons (scaled_term p c t) (scaled_terms p c ts) b ∙ ap₂ K.add (term_scaled c t f.0 b) (val_scaled c ts f.1 b)
+      ∙ sym (ap (K.mul (number c)) (val_cons t ts b) ∙ (gf_laws p).mul_add (number c) (terms_val (t ∷ []) b) (terms_val ts b))
+
+  -- ---- heads
+  -- a falling list is zero from its head on
+  pub val_above : (t : Term) (f : Fits t) (ts : List Term) → IsAboveFirst o t ts → IsFalling p n m o ts → (b : ℕ × Monomial n) → ¬ (S.Less b (place_of t f)) → terms_val ts b ≡ K.zero
+  val_above t f [] a g b w = val_nil b
+  val_above t f (s ∷ ss) a g b w =
+      let fs = fits_of s g.0 in
+      let less : S.Less (place_of s fs) (place_of t f) = less_of_cmp o n m s.component t.component (record { exponents = s.exponents; fits = fs.exponents }) (record { exponents = t.exponents; fits = f.exponents }) fs.within a in
+      val_cons s ss b
+    ∙ ap₂ K.add (val_other s fs b (λ e. w (subst (λ x. S.Less x (place_of t f)) (sym e) less)))
+        (val_above s fs ss g.1 g.2 b (λ l. w (S.less_trans {a = b} {b = place_of s fs} {c = place_of t f} l less)))
+    ∙ (gf_laws p).zero_add K.zero
+
+  pub val_head : (t : Term) (ts : List Term) (g : IsFalling p n m o (t ∷ ts)) → terms_val (t ∷ ts) (place_of t (fits_of t g.0)) ≡ number t.coefficient
+  val_head t ts g = val_cons t ts (place_of t (fits_of t g.0))
+      ∙ ap₂ K.add (val_at t (fits_of t g.0)) (val_above t (fits_of t g.0) ts g.1 g.2 (place_of t (fits_of t g.0)) (less_irrefl S (place_of t (fits_of t g.0))))
+      ∙ add_zero (gf_laws p) (number t.coefficient)
+
+  pub number_nonzero : (c : ℕ) → 0 < c → c < prime_value p → ¬ (number c ≡ K.zero)
+  number_nonzero c pos h e =
+      let q : c % prime_value p ≡ 0 % prime_value p = ap (λ x. x.number) e in
+      let z : c ≡ 0 = sym (mod-eq_of_lt h) ∙ q ∙ zero-mod (prime_value p) in
+      absurd (omega (arith, pos))
+
+  -- the head of a falling list is its first term
+  pub head_of_terms : (t : Term) (ts : List Term) (g : IsFalling p n m o (t ∷ ts)) → IsHead S (terms_val (t ∷ ts)) (place_of t (fits_of t g.0))
+  head_of_terms t ts g = ((λ e. number_nonzero t.coefficient g.0.3 g.0.4 (sym (val_head t ts g) ∙ e)), λ b l.
+      val_cons t ts b
+    ∙ ap₂ K.add (val_other t (fits_of t g.0) b (λ e. not_less_of_same S (sym e) l)) (val_above t (fits_of t g.0) ts g.1 g.2 b (λ k. less_irrefl S b (S.less_trans {a = b} {b = place_of t (fits_of t g.0)} {c = b} k l)))
+    ∙ (gf_laws p).zero_add K.zero)
+
+  -- a falling list whose vector is zero is empty
+  pub empty_of_nil : (ts : List Term) → IsFalling p n m o ts → IsNil S (terms_val ts) → ts ≡ []
+  empty_of_nil [] g z = refl
+  empty_of_nil (t ∷ ts) g z = absurd ((head_of_terms t ts g).0 (z (place_of t (fits_of t g.0))))
