@@ -10,3 +10,4 @@ pub mod Values
 pub mod Images
 pub mod PlaceOrder
 pub mod TermValues
+pub mod Numbers
