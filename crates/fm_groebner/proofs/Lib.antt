@@ -11,3 +11,4 @@ pub mod Images
 pub mod PlaceOrder
 pub mod TermValues
 pub mod Numbers
+pub mod MonicLists

@@ -163,7 +163,7 @@ module _ (p : Prime) (n m : ℕ) (o : Order) where
       level l e = omega arith
 
   -- ---- multiples
-  number_times : (c d : ℕ) → number ((c * d) % prime_value p) ≡ K.mul (number c) (number d)
+  pub number_times : (c d : ℕ) → number ((c * d) % prime_value p) ≡ K.mul (number c) (number d)
   number_times c d = same_residue (number ((c * d) % prime_value p)) (K.mul (number c) (number d))
       (ap (λ x. x % prime_value p) (sym (mul-mod_first c d (prime_value p) ∙ refl)) ∙ again)
     where
