@@ -12,3 +12,4 @@ pub mod PlaceOrder
 pub mod TermValues
 pub mod Numbers
 pub mod MonicLists
+pub mod Logs

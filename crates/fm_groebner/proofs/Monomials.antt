@@ -121,6 +121,10 @@ module _ {n : ℕ} where
   lcm_meets a b = times_comm (difference (maximum a b) a) a ∙ times_difference a (maximum a b) (divides_max_left a.exponents b.exponents (a.fits ∙ sym b.fits))
       ∙ sym (times_comm (difference (maximum a b) b) b ∙ times_difference b (maximum a b) (divides_max_right a.exponents b.exponents (a.fits ∙ sym b.fits)))
 
+  -- a cofactor times its monomial is the least common multiple
+  pub lcm_left : (a b : Monomial n) → difference (maximum a b) a · a ≡ maximum a b
+  lcm_left a b = times_comm (difference (maximum a b) a) a ∙ times_difference a (maximum a b) (divides_max_left a.exponents b.exponents (a.fits ∙ sym b.fits))
+
   pub lcm_least : (a b m l : Monomial n) → m · a ≡ l · b
       → (u : Monomial n) × (m ≡ u · difference (maximum a b) a) × (l ≡ u · difference (maximum a b) b)
   lcm_least a b m l e = (

@@ -1,0 +1,156 @@
+-- The members of a complete log of free steps are a Gröbner basis of the span of the inputs.
+use Rattle.std.proofs.Common.{◌≡◌, ◌≢◌, ◌⊎◌, inl, inr, ℕ, zero, suc, ◌+◌, ◌-◌, ◌<◌, ◌≤◌, Bool, List, [], ◌∷◌, ◌++◌, map, length, Contains, refl, sym, ap, ap₂, ◌∙◌, subst, arith}
+use native.Mathlib.Decide.{ℕ_discrete}
+use Rattle.std.proofs.lemmas.Bool.{cases_order}
+use Rattle.fm_gfp.specs.declared.prime.Prime.{Prime}
+use Rattle.fm_tuple.specs.Tuple.{tuple_difference, tuple_maximum, TupleDivides}
+use Rattle.fm_mono.specs.declared.order.Order.{Order}
+use Rattle.fm_algebra.specs.Gf.{gf, gf_is_zero}
+use Rattle.fm_algebra.proofs.Gf.{gf_laws}
+use Rattle.fm_groebner.specs.Terms.{Term, IsFalling, IsMonic, vector_of, vectors_of, multiple_terms, scaled_terms}
+use Rattle.fm_groebner.specs.Logs.{IsNumber, Entry, ReducesBy, IsKept, dropped, kept, IsSVector, IsTreated, DividesLcm, FreeRun, begin, take_input, take_pair, skip_pair, IsComplete}
+use Rattle.fm_groebner.proofs.Setting as setting
+use Rattle.fm_groebner.proofs.Setting.{Vect, Family, In, in_map, lin_zero, lin_comb, shift, Representation, Low, Anywhere, Span, IsGroebner, Reduces, done, step, IsLcm, Good}
+use Rattle.fm_groebner.proofs.Algebra.{scale_only, mul_zero}
+use Rattle.fm_groebner.proofs.Span.{lin_eq, lin_nil, span_shift, span_member, rep_more, all_segment, below_segment}
+use Rattle.fm_groebner.proofs.Buchberger.{divides_common, good_self, good_sym, good_apart, good_chain, good_of_reduces, reduces_rep, reduces_in, s_vector_below}
+use Rattle.fm_groebner.proofs.Basis.{groebner_of_good_pairs, rest_of_span}
+use Rattle.fm_groebner.proofs.Monomials.{Monomial, ◌·◌, one, difference, maximum, times_comm, times_difference, lcm_left}
+use Rattle.fm_groebner.proofs.Places.{places, same_place, place_lcm, place_apart}
+use Rattle.fm_groebner.proofs.Ordered.{ordered}
+use Rattle.fm_groebner.proofs.Images.{Values}
+use Rattle.fm_groebner.proofs.Numbers.{number_same, number_within, number_cases, contains_cases, in_of_number, in_of_map, number_of_in}
+use Rattle.fm_groebner.proofs.TermValues.{number, Fits, fits_of, place_of, all_fit, val_nil, val_scaled, val_append, val_multiple}
+use Rattle.fm_groebner.proofs.MonicLists.{T, V, head_place, MemberAt, member_at, Members, at_number, AllMonic, members_monic, taken_away, reduces_falling, reduces_of_by, kept_number, kept_length, kept_old, kept_member, kept_monic, kept_rep, kept_low, scaled_falling}
+
+module _ (p : Prime) (n m : ℕ) (o : Order) (inputs : List (List Term)) where
+  abbrev X : setting.Setting
+  X = T p n m o
+
+  -- the vectors of the inputs
+  abbrev pub Inputs : Vect X → Type 0
+  Inputs = Values (ordered o n) (gf p) (gf_laws p) (gf_is_zero p) m (vectors_of p n m inputs)
+
+  -- the pair of the members a and b is good
+  abbrev GoodAt : List (List Term) → ℕ → ℕ → Type 0
+  GoodAt ms a b = (g : Vect X) (h : ℕ × Monomial n) (g' : Vect X) (h' : ℕ × Monomial n) → MemberAt p n m o ms a g h → MemberAt p n m o ms b g' h' → Good X (Members p n m o ms) g h g' h'
+
+  -- what holds after each step
+  record Invariant (ms : List (List Term)) (taken : List ℕ) (treated : List (ℕ × ℕ)) : Type 0 where
+    well : AllMonic p n m o ms
+    members : (g : Vect X) (h : ℕ × Monomial n) → Members p n m o ms g h → Span X Inputs g
+    covered : (k : ℕ) (v : List Term) → Contains taken k → IsNumber inputs k v → Representation X (Members p n m o ms) (Anywhere X) (V p n m o v)
+    good : (a b : ℕ) → Contains treated (a, b) → (a ≤ length ms) × (b ≤ length ms) × GoodAt ms a b
+
+  input_span : {k : ℕ} {v : List Term} → IsNumber inputs k v → Span X Inputs (V p n m o v)
+  input_span {k} {v} i = span_member X (vector_of p n m v, in_map (vector_of p n m) (in_of_number i), λ b. refl)
+
+  reduces_from : {G : Family X} {u v r : Vect X} → ((b : ℕ × Monomial n) → u b ≡ v b) → Reduces X G v r → Reduces X G u r
+  reduces_from e (done f) = done (λ b. e b ∙ f b)
+  reduces_from {u = u} e (step {v = v} c a g h i nz f red) = step c a g h i (λ z. nz (sym (e _) ∙ z)) (λ b. f b ∙ ap ((gf p).add ((gf p).mul ((gf p).neg c) (shift X a g b))) (sym (e b))) red
+
+  old_member : {ms more : List (List Term)} {keep : Bool} {r : List Term} → IsKept p n m o ms keep r more → (k : ℕ) → k ≤ length ms → {g : Vect X} {h : ℕ × Monomial n} → MemberAt p n m o more k g h → MemberAt p n m o ms k g h
+  old_member ke k l (member_at f mo i) = member_at f mo (kept_old p n m o ke l i)
+
+  -- a kept rest of the span keeps the members in the span
+  kept_span : {ms more : List (List Term)} {keep : Bool} {r : List Term} → IsKept p n m o ms keep r more → IsFalling p n m o r → Span X Inputs (V p n m o r)
+      → ((g : Vect X) (h : ℕ × Monomial n) → Members p n m o ms g h → Span X Inputs g) → (g : Vect X) (h : ℕ × Monomial n) → Members p n m o more g h → Span X Inputs g
+  kept_span dropped f s old g h i = old g h i
+  kept_span (kept {s = s} {r = r} c e) f sp old g h (k, member_at fx mo i) = elim (number_cases _ _ i) [
+    | inl j ↦ old g h (k, member_at fx mo j)
+    | inr q ↦ subst (λ z. Span X Inputs (V p n m o z)) (sym q.1) (lin_comb (number p n m o c) sp (lin_nil X)
+        (λ b. scale_only (gf_laws p) (number p n m o c) (V p n m o (s ∷ r) b) (V p n m o (scaled_terms p c (s ∷ r)) b) (val_scaled p n m o c (s ∷ r) (all_fit p n m o (s ∷ r) f) b)))
+  ]
+
+  good_more : {ms more : List (List Term)} {keep : Bool} {r : List Term} → IsKept p n m o ms keep r more → (a b : ℕ) → (a ≤ length ms) × (b ≤ length ms) × GoodAt ms a b
+      → (a ≤ length more) × (b ≤ length more) × GoodAt more a b
+  good_more ke a b q = (
+    omega (arith, kept_length p n m o ke, q.0),
+    omega (arith, kept_length p n m o ke, q.1),
+    λ g h g' h' i i' x y e. rep_more X (λ u k j. (j.0, kept_member p n m o ke j.0 u k j.1)) (q.2 g h g' h' (old_member ke a q.0 i) (old_member ke b q.1 i') x y e),
+  )
+
+  -- the vector that is taken up is a sum of multiples of the new members, and the rest is in the span
+  module _ {ms more : List (List Term)} {by : List ℕ} {keep : Bool} {v r : List Term} (well : AllMonic p n m o ms)
+      (red : ReducesBy p n m o ms by v r) (falls : IsFalling p n m o v) (ke : IsKept p n m o ms keep r more) where
+    taken_rep : Representation X (Members p n m o more) (Anywhere X) (V p n m o v)
+    taken_rep = reduces_rep X (members_monic p n m o ms) (all_segment X) (λ g h i. (i.0, kept_member p n m o ke i.0 g h i.1)) (reduces_of_by p n m o well red falls)
+        (λ b w. absurd (w tt)) (kept_rep p n m o ke (reduces_falling p n m o red falls))
+
+    rest_span : ((g : Vect X) (h : ℕ × Monomial n) → Members p n m o ms g h → Span X Inputs g) → Span X Inputs (V p n m o v) → Span X Inputs (V p n m o r)
+    rest_span members s = rest_of_span X members (reduces_of_by p n m o well red falls) s
+
+  good_at : {ms : List (List Term)} {a b : ℕ} {x y : List Term} → IsNumber ms a x → (f : IsFalling p n m o x) → IsNumber ms b y → (f' : IsFalling p n m o y)
+      → Good X (Members p n m o ms) (V p n m o x) (head_place p n m o x f) (V p n m o y) (head_place p n m o y f') → GoodAt ms a b
+  good_at {ms} {x = x} i f j f' base g h g' h' mi mj =
+      at_number p n m o i f (λ u k. Good X (Members p n m o ms) u k g' h')
+        (at_number p n m o j f' (λ u k. Good X (Members p n m o ms) (V p n m o x) (head_place p n m o x f) u k) base mj) mi
+
+  abbrev monomial_of : (t : Term) → Fits p n m o t → Monomial n
+  monomial_of t f = record { exponents = t.exponents; fits = f.exponents }
+
+  module _ (t u : Term) (ts us : List Term) (ft : IsFalling p n m o (t ∷ ts)) (fu : IsFalling p n m o (u ∷ us)) (e : t.component ≡ u.component) where
+    abbrev left : Monomial n
+    left = monomial_of t (fits_of p n m o t ft.0)
+
+    abbrev right : Monomial n
+    right = monomial_of u (fits_of p n m o u fu.0)
+
+    heads_lcm : IsLcm X (head_place p n m o (t ∷ ts) ft) (head_place p n m o (u ∷ us) fu) (difference (maximum left right) left) (difference (maximum left right) right)
+    heads_lcm = place_lcm (ordered o n) (gf p) (gf_laws p) (gf_is_zero p) (head_place p n m o (t ∷ ts) ft) (head_place p n m o (u ∷ us) fu) (ap (λ x. m - x) e)
+
+    abbrev s_vector : Vect X
+    s_vector b = (gf p).add ((gf p).mul ((gf p).neg (gf p).one) (shift X (difference (maximum left right) right) (V p n m o (u ∷ us)) b)) (shift X (difference (maximum left right) left) (V p n m o (t ∷ ts)) b)
+
+    s_vector_is : (v : List Term) → IsSVector p n m o t u ts us v → (b : ℕ × Monomial n) → s_vector b ≡ V p n m o v b
+    s_vector_is v sv b = sym (
+        taken_away p n m o v (multiple_terms p 1 (difference (maximum left right) left).exponents (t ∷ ts)) (u ∷ us) 1 (difference (maximum left right) right) (all_fit p n m o (u ∷ us) fu) sv.is b
+      ∙ ap ((gf p).add ((gf p).mul ((gf p).neg (gf p).one) (shift X (difference (maximum left right) right) (V p n m o (u ∷ us)) b)))
+          (val_multiple p n m o 1 (difference (maximum left right) left) (t ∷ ts) (all_fit p n m o (t ∷ ts) ft) b
+            ∙ (gf_laws p).one_mul (shift X (difference (maximum left right) left) (V p n m o (t ∷ ts)) b)))
+
+    -- a pair whose S-vector was taken up is good
+    pair_good : {ms more : List (List Term)} {by : List ℕ} {keep : Bool} {v r : List Term} {a b : ℕ} → AllMonic p n m o ms → IsMonic (t ∷ ts) → IsMonic (u ∷ us)
+        → IsNumber ms a (t ∷ ts) → IsNumber ms b (u ∷ us) → IsSVector p n m o t u ts us v → ReducesBy p n m o ms by v r → IsKept p n m o ms keep r more
+        → Good X (Members p n m o more) (V p n m o (t ∷ ts)) (head_place p n m o (t ∷ ts) ft) (V p n m o (u ∷ us)) (head_place p n m o (u ∷ us) fu)
+    pair_good {ms} {r = r} {a = a} {b = b} well mt mu i j sv by_red ke =
+        let red = reduces_from (s_vector_is _ sv) (reduces_of_by p n m o well by_red sv.falls) in
+        good_of_reduces X (members_monic p n m o ms) (λ g h k. (k.0, kept_member p n m o ke k.0 g h k.1))
+          (V p n m o (t ∷ ts)) (head_place p n m o (t ∷ ts) ft) (V p n m o (u ∷ us)) (head_place p n m o (u ∷ us) fu)
+          (difference (maximum left right) left) (difference (maximum left right) right) (V p n m o r) (a, member_at ft mt i) (b, member_at fu mu j) heads_lcm red
+          (kept_low p n m o ke (reduces_falling p n m o by_red sv.falls) (X.◌•◌ (difference (maximum left right) left) (head_place p n m o (t ∷ ts) ft))
+            (reduces_in X (members_monic p n m o ms) (below_segment X (X.◌•◌ (difference (maximum left right) left) (head_place p n m o (t ∷ ts) ft))) red
+              (s_vector_below X (members_monic p n m o ms) (V p n m o (t ∷ ts)) (head_place p n m o (t ∷ ts) ft) (V p n m o (u ∷ us)) (head_place p n m o (u ∷ us) fu)
+                (difference (maximum left right) left) (difference (maximum left right) right) (a, member_at ft mt i) (b, member_at fu mu j) heads_lcm.meets)))
+
+    -- the S-vector lies in the span
+    s_vector_span : {ms : List (List Term)} {v : List Term} {a b : ℕ} → ((g : Vect X) (h : ℕ × Monomial n) → Members p n m o ms g h → Span X Inputs g) → IsMonic (t ∷ ts) → IsMonic (u ∷ us)
+        → IsNumber ms a (t ∷ ts) → IsNumber ms b (u ∷ us) → IsSVector p n m o t u ts us v → Span X Inputs (V p n m o v)
+    s_vector_span {v = v} {a = a} {b = b} members mt mu i j sv =
+        lin_comb ((gf p).neg (gf p).one)
+          (span_shift X (difference (maximum left right) right) (members (V p n m o (u ∷ us)) (head_place p n m o (u ∷ us) fu) (b, member_at fu mu j)))
+          (span_shift X (difference (maximum left right) left) (members (V p n m o (t ∷ ts)) (head_place p n m o (t ∷ ts) ft) (a, member_at ft mt i)))
+          (λ c. sym (s_vector_is v sv c))
+
+    -- what divides the least common multiple of two heads divides each common multiple
+    lcm_divided : (f : Term) (fs : List Term) (ff : IsFalling p n m o (f ∷ fs)) → DividesLcm p n m o f t u → (a b : Monomial n)
+        → X.◌•◌ a (head_place p n m o (t ∷ ts) ft) ≡ X.◌•◌ b (head_place p n m o (u ∷ us) fu) → (i : Monomial n) × (X.◌•◌ i (head_place p n m o (f ∷ fs) ff) ≡ X.◌•◌ a (head_place p n m o (t ∷ ts) ft))
+    lcm_divided f fs ff d = divides_common X {d = difference (maximum left right) (monomial_of f (fits_of p n m o f ff.0))} heads_lcm
+        (same_place (ap (λ x. m - x) d.1)
+          (times_comm (difference (maximum left right) (monomial_of f (fits_of p n m o f ff.0))) (monomial_of f (fits_of p n m o f ff.0))
+            ∙ times_difference (monomial_of f (fits_of p n m o f ff.0)) (maximum left right) d.2 ∙ sym (lcm_left left right)))
+
+  -- ---- the steps
+  start_invariant : Invariant [] [] []
+  start_invariant = record {
+    well = λ k x i. elim i [ ];
+    members = λ g h (k, i). elim (no_member i) [ ];
+    covered = λ k v c i. absurd (no_element c);
+    good = λ a b c. absurd (no_element c);
+  }
+    where
+      no_element : {A : Type 0} {x : A} → ¬ (Contains [] x)
+      no_element c = absurd (omega (arith, c.1))
+
+      no_member : {k : ℕ} {g : Vect X} {h : ℕ × Monomial n} → MemberAt p n m o [] k g h → ⊥
+      no_member (member_at f mo i) = elim i [ ]
