@@ -1,6 +1,6 @@
 -- The members of a complete log of free steps are a Gröbner basis of the span of the inputs.
 use Rattle.std.proofs.Common.{◌≡◌, ◌≢◌, ◌⊎◌, inl, inr, ℕ, zero, suc, ◌+◌, ◌-◌, ◌<◌, ◌≤◌, Bool, List, [], ◌∷◌, ◌++◌, map, length, Contains, refl, sym, ap, ap₂, ◌∙◌, subst, arith}
-use native.Mathlib.Decide.{ℕ_discrete}
+use native.Mathlib.Decide.{ℕ_discrete, dec_lt}
 use Rattle.std.proofs.lemmas.Bool.{cases_order}
 use Rattle.fm_gfp.specs.declared.prime.Prime.{Prime}
 use Rattle.fm_tuple.specs.Tuple.{tuple_difference, tuple_maximum, TupleDivides}
@@ -20,7 +20,7 @@ use Rattle.fm_groebner.proofs.Places.{places, same_place, place_lcm, place_apart
 use Rattle.fm_groebner.proofs.Ordered.{ordered}
 use Rattle.fm_groebner.proofs.Images.{Values}
 use Rattle.fm_groebner.proofs.Numbers.{number_same, number_within, number_cases, contains_cases, in_of_number, in_of_map, number_of_in}
-use Rattle.fm_groebner.proofs.TermValues.{number, Fits, fits_of, place_of, all_fit, val_nil, val_scaled, val_append, val_multiple}
+use Rattle.fm_groebner.proofs.TermValues.{val, number, Fits, fits_of, place_of, all_fit, val_nil, val_scaled, val_append, val_multiple}
 use Rattle.fm_groebner.proofs.MonicLists.{T, V, head_place, MemberAt, member_at, Members, at_number, AllMonic, members_monic, taken_away, reduces_falling, reduces_of_by, kept_number, kept_length, kept_old, kept_member, kept_monic, kept_rep, kept_low, scaled_falling}
 
 module _ (p : Prime) (n m : ℕ) (o : Order) (inputs : List (List Term)) where
@@ -154,3 +154,119 @@ module _ (p : Prime) (n m : ℕ) (o : Order) (inputs : List (List Term)) where
 
       no_member : {k : ℕ} {g : Vect X} {h : ℕ × Monomial n} → MemberAt p n m o [] k g h → ⊥
       no_member (member_at f mo i) = elim i [ ]
+
+  after_input : {ms more : List (List Term)} {taken : List ℕ} {treated : List (ℕ × ℕ)} {by : List ℕ} {keep : Bool} {v r : List Term} → Invariant ms taken treated → (k : ℕ)
+      → IsNumber inputs k v → IsFalling p n m o v → ReducesBy p n m o ms by v r → IsKept p n m o ms keep r more → Invariant more (k ∷ taken) treated
+  after_input {ms} {more} {taken} {v = v} inv k i f red ke = record {
+    well = kept_monic p n m o ke (reduces_falling p n m o red f) inv.well;
+    members = kept_span ke (reduces_falling p n m o red f) (rest_span inv.well red f ke inv.members (input_span i)) inv.members;
+    covered = λ j w c i'. elim (contains_cases k taken j c) [
+      | inl e ↦ subst (λ z. Representation X (Members p n m o more) (Anywhere X) (V p n m o z)) (number_same i (subst (λ x. IsNumber inputs x w) (sym e) i')) (taken_rep inv.well red f ke)
+      | inr d ↦ rep_more X (λ g h q. (q.0, kept_member p n m o ke q.0 g h q.1)) (inv.covered j w d i')
+    ];
+    good = λ a b c. good_more ke a b (inv.good a b c);
+  }
+
+  with_pair : {ms : List (List Term)} (treated : List (ℕ × ℕ)) (a b : ℕ) → (a ≤ length ms) × (b ≤ length ms) × GoodAt ms a b
+      → ((c d : ℕ) → Contains treated (c, d) → (c ≤ length ms) × (d ≤ length ms) × GoodAt ms c d)
+      → (c d : ℕ) → Contains ((a, b) ∷ treated) (c, d) → (c ≤ length ms) × (d ≤ length ms) × GoodAt ms c d
+  with_pair {ms} treated a b new old c d i = elim (contains_cases (a, b) treated (c, d) i) [
+    | inl e ↦ subst (λ q. (q.0 ≤ length ms) × (q.1 ≤ length ms) × GoodAt ms q.0 q.1) e new
+    | inr j ↦ old c d j
+  ]
+
+  after_pair : {ms more : List (List Term)} {taken : List ℕ} {treated : List (ℕ × ℕ)} {by : List ℕ} {keep : Bool} {t u : Term} {ts us v r : List Term} → Invariant ms taken treated → (a b : ℕ)
+      → IsNumber ms a (t ∷ ts) → IsNumber ms b (u ∷ us) → IsSVector p n m o t u ts us v → ReducesBy p n m o ms by v r → IsKept p n m o ms keep r more → Invariant more taken ((a, b) ∷ treated)
+  after_pair {ms} {more} {taken} {treated} {t = t} {u = u} {ts = ts} {us = us} {v = v} inv a b i j sv red ke =
+      let wt = inv.well a (t ∷ ts) i in
+      let wu = inv.well b (u ∷ us) j in
+      record {
+        well = kept_monic p n m o ke (reduces_falling p n m o red sv.falls) inv.well;
+        members = kept_span ke (reduces_falling p n m o red sv.falls)
+          (rest_span inv.well red sv.falls ke inv.members (s_vector_span t u ts us wt.0 wu.0 sv.one_component inv.members wt.1 wu.1 i j sv)) inv.members;
+        covered = λ k w c i'. rep_more X (λ g h q. (q.0, kept_member p n m o ke q.0 g h q.1)) (inv.covered k w c i');
+        good = with_pair treated a b
+          (
+            omega (arith, kept_length p n m o ke, number_within i),
+            omega (arith, kept_length p n m o ke, number_within j),
+            good_at (kept_number p n m o ke i) wt.0 (kept_number p n m o ke j) wu.0 (pair_good t u ts us wt.0 wu.0 sv.one_component inv.well wt.1 wu.1 i j sv red ke),
+          )
+          (λ c d k. good_more ke c d (inv.good c d k));
+      }
+
+  treated_good : {ms : List (List Term)} {taken : List ℕ} {treated : List (ℕ × ℕ)} → Invariant ms taken treated → (a b : ℕ) → IsTreated p n m o treated a b → GoodAt ms a b
+  treated_good inv a b (inl c) = (inv.good a b c).2
+  treated_good inv a b (inr c) = λ g h g' h' i j. good_sym X g' h' g h ((inv.good b a c).2 g' h' g h j i)
+
+  after_skip : {ms : List (List Term)} {taken : List ℕ} {treated : List (ℕ × ℕ)} {t u f : Term} {ts us fs : List Term} → Invariant ms taken treated → (a b k : ℕ)
+      → IsNumber ms a (t ∷ ts) → IsNumber ms b (u ∷ us) → IsNumber ms k (f ∷ fs) → DividesLcm p n m o f t u → IsTreated p n m o treated a k → IsTreated p n m o treated k b
+      → Invariant ms taken ((a, b) ∷ treated)
+  after_skip {ms} {taken} {treated} {t} {u} {f} {ts} {us} {fs} inv a b k i j l d ak kb =
+      let wt = inv.well a (t ∷ ts) i in
+      let wu = inv.well b (u ∷ us) j in
+      let wf = inv.well k (f ∷ fs) l in
+      record {
+        well = inv.well;
+        members = inv.members;
+        covered = inv.covered;
+        good = with_pair treated a b
+          (
+            number_within i,
+            number_within j,
+            good_at i wt.0 j wu.0 (good_chain X (V p n m o (t ∷ ts)) (head_place p n m o (t ∷ ts) wt.0) (V p n m o (u ∷ us)) (head_place p n m o (u ∷ us) wu.0) (V p n m o (f ∷ fs)) (head_place p n m o (f ∷ fs) wf.0)
+              (lcm_divided t u ts us wt.0 wu.0 d.0 f fs wf.0 d)
+              (treated_good inv a k ak (V p n m o (t ∷ ts)) (head_place p n m o (t ∷ ts) wt.0) (V p n m o (f ∷ fs)) (head_place p n m o (f ∷ fs) wf.0) (member_at wt.0 wt.1 i) (member_at wf.0 wf.1 l))
+              (treated_good inv k b kb (V p n m o (f ∷ fs)) (head_place p n m o (f ∷ fs) wf.0) (V p n m o (u ∷ us)) (head_place p n m o (u ∷ us) wu.0) (member_at wf.0 wf.1 l) (member_at wu.0 wu.1 j))),
+          )
+          inv.good;
+      }
+
+  invariant_of_run : {log : List Entry} {ms : List (List Term)} {taken : List ℕ} {treated : List (ℕ × ℕ)} → FreeRun p n m o inputs log ms taken treated → Invariant ms taken treated
+  invariant_of_run begin = start_invariant
+  invariant_of_run (take_input run k by new i f red ke) = after_input (invariant_of_run run) k i f red ke
+  invariant_of_run (take_pair run a b by l new i j sv red ke) = after_pair (invariant_of_run run) a b i j sv red ke
+  invariant_of_run (skip_pair run a b k l ka kb new i j f d ak kb') = after_skip (invariant_of_run run) a b k i j f d ak kb'
+
+  -- ---- the end
+  module _ {ms : List (List Term)} {taken : List ℕ} {treated : List (ℕ × ℕ)} (inv : Invariant ms taken treated) (complete : IsComplete p n m o inputs ms taken treated) where
+    lower_good : (a b : ℕ) → a < b → (x y : List Term) (f : IsFalling p n m o x) (f' : IsFalling p n m o y) → IsMonic x → IsMonic y → IsNumber ms a x → IsNumber ms b y
+        → Good X (Members p n m o ms) (V p n m o x) (head_place p n m o x f) (V p n m o y) (head_place p n m o y f')
+    lower_good a b l [] y f f' mo mo' i j = absurd mo
+    lower_good a b l (t ∷ ts) [] f f' mo mo' i j = absurd mo'
+    lower_good a b l (t ∷ ts) (u ∷ us) f f' mo mo' i j = elim (ℕ_discrete t.component u.component) [
+      | yes e ↦ (inv.good a b (complete.all_treated a b t u ts us l i j e)).2 (V p n m o (t ∷ ts)) (head_place p n m o (t ∷ ts) f) (V p n m o (u ∷ us)) (head_place p n m o (u ∷ us) f') (member_at f mo i) (member_at f' mo' j)
+      | no w ↦ good_apart X (V p n m o (t ∷ ts)) (head_place p n m o (t ∷ ts) f) (V p n m o (u ∷ us)) (head_place p n m o (u ∷ us) f')
+          (place_apart (ordered o n) (gf p) (gf_laws p) (gf_is_zero p) (head_place p n m o (t ∷ ts) f) (head_place p n m o (u ∷ us) f') (apart w))
+    ]
+      where
+        apart : ¬ (t.component ≡ u.component) → ¬ (m - t.component ≡ m - u.component)
+        apart w e = let a = f.0.1 in let b = f'.0.1 in absurd (w (omega (arith, a, b, e)))
+
+    ordered_good : (a b : ℕ) → a < b → (g : Vect X) (h : ℕ × Monomial n) (g' : Vect X) (h' : ℕ × Monomial n) → MemberAt p n m o ms a g h → MemberAt p n m o ms b g' h' → Good X (Members p n m o ms) g h g' h'
+    ordered_good a b l g h g' h' (member_at f mo i) (member_at f' mo' j) = lower_good a b l _ _ f f' mo mo' i j
+
+    self_good : (a : ℕ) (g : Vect X) (h : ℕ × Monomial n) (g' : Vect X) (h' : ℕ × Monomial n) → MemberAt p n m o ms a g h → MemberAt p n m o ms a g' h' → Good X (Members p n m o ms) g h g' h'
+    self_good a g h g' h' (member_at {x = x} f mo i) j = at_number p n m o i f (λ u k. Good X (Members p n m o ms) (V p n m o x) (head_place p n m o x f) u k) (good_self X (V p n m o x) (head_place p n m o x f)) j
+
+    pairs_good : (g : Vect X) (h : ℕ × Monomial n) (g' : Vect X) (h' : ℕ × Monomial n) → Members p n m o ms g h → Members p n m o ms g' h' → Good X (Members p n m o ms) g h g' h'
+    pairs_good g h g' h' (a, i) (b, j) = elim (dec_lt a b) [
+      | yes l ↦ ordered_good a b l g h g' h' i j
+      | no w ↦ elim (dec_lt b a) [
+        | yes l ↦ good_sym X g' h' g h (ordered_good b a l g' h' g h j i)
+        | no w' ↦ let e : b ≡ a = omega arith in self_good a g h g' h' i (subst (λ k. MemberAt p n m o ms k g' h') e j)
+      ]
+    ]
+
+    inputs_covered : (g : Vect X) → Inputs g → Representation X (Members p n m o ms) (Anywhere X) g
+    inputs_covered g (v, i, e) =
+        let x = in_of_map (vector_of p n m) inputs i in
+        let k = number_of_in x.1 in
+        lin_eq X (inv.covered k.0 x.0 (complete.all_taken k.0 x.0 k.1) k.1) (λ b. e b ∙ ap (λ u. val p n m o u b) (sym x.2))
+
+    groebner_of_invariant : IsGroebner X (Members p n m o ms) Inputs
+    groebner_of_invariant = groebner_of_good_pairs X (members_monic p n m o ms) pairs_good inv.members inputs_covered
+
+  -- the members of a complete log are monic, and a Gröbner basis of the span of the inputs
+  pub groebner_of_log : {log : List Entry} {ms : List (List Term)} {taken : List ℕ} {treated : List (ℕ × ℕ)} → FreeRun p n m o inputs log ms taken treated → IsComplete p n m o inputs ms taken treated
+      → AllMonic p n m o ms × IsGroebner X (Members p n m o ms) Inputs
+  groebner_of_log run complete = let inv = invariant_of_run run in (inv.well, groebner_of_invariant inv complete)
