@@ -217,3 +217,12 @@ module _ {n : ℕ} (O : MonomialOrder n) (K : Ring) (L : IsRing K) (is_zero : (c
         from c = (listed (length gens) c.0, length-listed (length gens) c.0,
             same_vector O K L is_zero m (apply R generated (listed (length gens) c.0)) v (length-apply R generated (listed (length gens) c.0)) l
               (λ b. value_apply (listed (length gens) c.0) c.0 (λ j h. get_or-listed (length gens) j R.zero c.0 h) b ∙ sym (c.1 b)))
+
+    -- each vector of the span comes from the image
+    pub vector_of_span : {u : Vect S} → Span S Values u → (v : List (Poly K n)) × InListImage R generated v × ((b : ℕ × Monomial n) → u b ≡ value O K L is_zero m v b)
+    unfolding Combination component
+    vector_of_span {u} s = from (combination_of s)
+      where
+        from : Combination u → (v : List (Poly K n)) × InListImage R generated v × ((b : ℕ × Monomial n) → u b ≡ value O K L is_zero m v b)
+        from c = (apply R generated (listed (length gens) c.0), (listed (length gens) c.0, length-listed (length gens) c.0, refl),
+            λ b. c.1 b ∙ sym (value_apply (listed (length gens) c.0) c.0 (λ j h. get_or-listed (length gens) j R.zero c.0 h) b))

@@ -12,7 +12,7 @@ use Rattle.fm_groebner.specs.Logs.{IsNumber, Entry, ReducesBy, IsKept, dropped, 
 use Rattle.fm_groebner.proofs.Setting as setting
 use Rattle.fm_groebner.proofs.Setting.{Vect, Family, In, in_map, lin_zero, lin_comb, shift, Representation, Low, Anywhere, Span, IsGroebner, Reduces, done, step, IsLcm, Good}
 use Rattle.fm_groebner.proofs.Algebra.{scale_only, mul_zero}
-use Rattle.fm_groebner.proofs.Span.{lin_eq, lin_nil, span_shift, span_member, rep_more, all_segment, below_segment}
+use Rattle.fm_groebner.proofs.Span.{lin_eq, lin_nil, rep_member, shift_one, span_shift, span_member, rep_more, all_segment, below_segment}
 use Rattle.fm_groebner.proofs.Buchberger.{divides_common, good_self, good_sym, good_apart, good_chain, good_of_reduces, reduces_rep, reduces_in, s_vector_below}
 use Rattle.fm_groebner.proofs.Basis.{groebner_of_good_pairs, rest_of_span}
 use Rattle.fm_groebner.proofs.Monomials.{Monomial, ◌·◌, one, difference, maximum, times_comm, times_difference, lcm_left}
@@ -228,22 +228,24 @@ module _ (p : Prime) (n m : ℕ) (o : Order) (inputs : List (List Term)) where
   invariant_of_run (skip_pair run a b k l ka kb new i j f d ak kb') = after_skip (invariant_of_run run) a b k i j f d ak kb'
 
   -- ---- the end
-  module _ {ms : List (List Term)} {taken : List ℕ} {treated : List (ℕ × ℕ)} (inv : Invariant ms taken treated) (complete : IsComplete p n m o inputs ms taken treated) where
-    lower_good : (a b : ℕ) → a < b → (x y : List Term) (f : IsFalling p n m o x) (f' : IsFalling p n m o y) → IsMonic x → IsMonic y → IsNumber ms a x → IsNumber ms b y
-        → Good X (Members p n m o ms) (V p n m o x) (head_place p n m o x f) (V p n m o y) (head_place p n m o y f')
-    lower_good a b l [] y f f' mo mo' i j = absurd mo
-    lower_good a b l (t ∷ ts) [] f f' mo mo' i j = absurd mo'
-    lower_good a b l (t ∷ ts) (u ∷ us) f f' mo mo' i j = elim (ℕ_discrete t.component u.component) [
-      | yes e ↦ (inv.good a b (complete.all_treated a b t u ts us l i j e)).2 (V p n m o (t ∷ ts)) (head_place p n m o (t ∷ ts) f) (V p n m o (u ∷ us)) (head_place p n m o (u ∷ us) f') (member_at f mo i) (member_at f' mo' j)
-      | no w ↦ good_apart X (V p n m o (t ∷ ts)) (head_place p n m o (t ∷ ts) f) (V p n m o (u ∷ us)) (head_place p n m o (u ∷ us) f')
-          (place_apart (ordered o n) (gf p) (gf_laws p) (gf_is_zero p) (head_place p n m o (t ∷ ts) f) (head_place p n m o (u ∷ us) f') (apart w))
-    ]
-      where
-        apart : ¬ (t.component ≡ u.component) → ¬ (m - t.component ≡ m - u.component)
-        apart w e = let a = f.0.1 in let b = f'.0.1 in absurd (w (omega (arith, a, b, e)))
+  lower_good : {ms : List (List Term)} → ((a b : ℕ) (t u : Term) (ts us : List Term) → a < b → IsNumber ms a (t ∷ ts) → IsNumber ms b (u ∷ us) → t.component ≡ u.component → GoodAt ms a b)
+      → (a b : ℕ) → a < b → (x y : List Term) (f : IsFalling p n m o x) (f' : IsFalling p n m o y) → IsMonic x → IsMonic y → IsNumber ms a x → IsNumber ms b y
+      → Good X (Members p n m o ms) (V p n m o x) (head_place p n m o x f) (V p n m o y) (head_place p n m o y f')
+  lower_good good a b l [] y f f' mo mo' i j = absurd mo
+  lower_good good a b l (t ∷ ts) [] f f' mo mo' i j = absurd mo'
+  lower_good good a b l (t ∷ ts) (u ∷ us) f f' mo mo' i j = elim (ℕ_discrete t.component u.component) [
+    | yes e ↦ good a b t u ts us l i j e (V p n m o (t ∷ ts)) (head_place p n m o (t ∷ ts) f) (V p n m o (u ∷ us)) (head_place p n m o (u ∷ us) f') (member_at f mo i) (member_at f' mo' j)
+    | no w ↦ good_apart X (V p n m o (t ∷ ts)) (head_place p n m o (t ∷ ts) f) (V p n m o (u ∷ us)) (head_place p n m o (u ∷ us) f')
+        (place_apart (ordered o n) (gf p) (gf_laws p) (gf_is_zero p) (head_place p n m o (t ∷ ts) f) (head_place p n m o (u ∷ us) f') (apart w))
+  ]
+    where
+      apart : ¬ (t.component ≡ u.component) → ¬ (m - t.component ≡ m - u.component)
+      apart w e = let a = f.0.1 in let b = f'.0.1 in absurd (w (omega (arith, a, b, e)))
 
+  -- where the pairs with heads in one component are good, all are
+  module _ {ms : List (List Term)} (good : (a b : ℕ) (t u : Term) (ts us : List Term) → a < b → IsNumber ms a (t ∷ ts) → IsNumber ms b (u ∷ us) → t.component ≡ u.component → GoodAt ms a b) where
     ordered_good : (a b : ℕ) → a < b → (g : Vect X) (h : ℕ × Monomial n) (g' : Vect X) (h' : ℕ × Monomial n) → MemberAt p n m o ms a g h → MemberAt p n m o ms b g' h' → Good X (Members p n m o ms) g h g' h'
-    ordered_good a b l g h g' h' (member_at f mo i) (member_at f' mo' j) = lower_good a b l _ _ f f' mo mo' i j
+    ordered_good a b l g h g' h' (member_at f mo i) (member_at f' mo' j) = lower_good good a b l _ _ f f' mo mo' i j
 
     self_good : (a : ℕ) (g : Vect X) (h : ℕ × Monomial n) (g' : Vect X) (h' : ℕ × Monomial n) → MemberAt p n m o ms a g h → MemberAt p n m o ms a g' h' → Good X (Members p n m o ms) g h g' h'
     self_good a g h g' h' (member_at {x = x} f mo i) j = at_number p n m o i f (λ u k. Good X (Members p n m o ms) (V p n m o x) (head_place p n m o x f) u k) (good_self X (V p n m o x) (head_place p n m o x f)) j
@@ -257,16 +259,44 @@ module _ (p : Prime) (n m : ℕ) (o : Order) (inputs : List (List Term)) where
       ]
     ]
 
-    inputs_covered : (g : Vect X) → Inputs g → Representation X (Members p n m o ms) (Anywhere X) g
-    inputs_covered g (v, i, e) =
-        let x = in_of_map (vector_of p n m) inputs i in
-        let k = number_of_in x.1 in
-        lin_eq X (inv.covered k.0 x.0 (complete.all_taken k.0 x.0 k.1) k.1) (λ b. e b ∙ ap (λ u. val p n m o u b) (sym x.2))
-
-    groebner_of_invariant : IsGroebner X (Members p n m o ms) Inputs
-    groebner_of_invariant = groebner_of_good_pairs X (members_monic p n m o ms) pairs_good inv.members inputs_covered
+  inputs_covered : {ms : List (List Term)} {taken : List ℕ} {treated : List (ℕ × ℕ)} → Invariant ms taken treated → IsComplete p n m o inputs ms taken treated
+      → (g : Vect X) → Inputs g → Representation X (Members p n m o ms) (Anywhere X) g
+  inputs_covered inv complete g (v, i, e) =
+      let x = in_of_map (vector_of p n m) inputs i in
+      let k = number_of_in x.1 in
+      lin_eq X (inv.covered k.0 x.0 (complete.all_taken k.0 x.0 k.1) k.1) (λ b. e b ∙ ap (λ u. val p n m o u b) (sym x.2))
 
   -- the members of a complete log are monic, and a Gröbner basis of the span of the inputs
   pub groebner_of_log : {log : List Entry} {ms : List (List Term)} {taken : List ℕ} {treated : List (ℕ × ℕ)} → FreeRun p n m o inputs log ms taken treated → IsComplete p n m o inputs ms taken treated
       → AllMonic p n m o ms × IsGroebner X (Members p n m o ms) Inputs
-  groebner_of_log run complete = let inv = invariant_of_run run in (inv.well, groebner_of_invariant inv complete)
+  groebner_of_log run complete =
+      let inv = invariant_of_run run in
+      (inv.well, groebner_of_good_pairs X (members_monic p n m o _) (pairs_good (λ a b t u ts us l i j e. (inv.good a b (complete.all_treated a b t u ts us l i j e)).2)) inv.members (inputs_covered inv complete))
+
+-- Buchberger's criterion: where the S-vectors of all pairs with heads in one component reduce to zero, monic members are a Gröbner basis of what they span
+module _ (p : Prime) (n m : ℕ) (o : Order) {ms : List (List Term)} (well : AllMonic p n m o ms)
+    (reduces : (a b : ℕ) (t u : Term) (ts us : List Term) → a < b → IsNumber ms a (t ∷ ts) → IsNumber ms b (u ∷ us) → t.component ≡ u.component
+      → (v : List Term) × (by : List ℕ) × IsSVector p n m o t u ts us v × ReducesBy p n m o ms by v []) where
+  pub groebner_of_s_vectors : IsGroebner (T p n m o) (Members p n m o ms) (Inputs p n m o ms)
+  groebner_of_s_vectors = groebner_of_good_pairs (T p n m o) (members_monic p n m o ms) (pairs_good p n m o ms good) members covered
+    where
+      good : (a b : ℕ) (t u : Term) (ts us : List Term) → a < b → IsNumber ms a (t ∷ ts) → IsNumber ms b (u ∷ us) → t.component ≡ u.component → GoodAt p n m o ms ms a b
+      good a b t u ts us l i j e =
+          let wt = well a (t ∷ ts) i in
+          let wu = well b (u ∷ us) j in
+          let s = reduces a b t u ts us l i j e in
+          good_at p n m o ms i wt.0 j wu.0 (pair_good p n m o ms t u ts us wt.0 wu.0 e well wt.1 wu.1 i j s.2 s.3 dropped)
+
+      member_span : (k : ℕ) (g : Vect (T p n m o)) (h : ℕ × Monomial n) → MemberAt p n m o ms k g h → Span (T p n m o) (Inputs p n m o ms) g
+      member_span k g h (member_at f mo i) = input_span p n m o ms i
+
+      members : (g : Vect (T p n m o)) (h : ℕ × Monomial n) → Members p n m o ms g h → Span (T p n m o) (Inputs p n m o ms) g
+      members g h i = member_span i.0 g h i.1
+
+      covered : (g : Vect (T p n m o)) → Inputs p n m o ms g → Representation (T p n m o) (Members p n m o ms) (Anywhere (T p n m o)) g
+      covered g (v, i, e) =
+          let x = in_of_map (vector_of p n m) ms i in
+          let k = number_of_in x.1 in
+          let w = well k.0 x.0 k.1 in
+          lin_eq (T p n m o) (rep_member (T p n m o) one (V p n m o x.0) (head_place p n m o x.0 w.0) (k.0, member_at w.0 w.1 k.1) tt)
+            (λ b. e b ∙ ap (λ u. val p n m o u b) (sym x.2) ∙ sym (shift_one (T p n m o) (V p n m o x.0) b))
