@@ -13,3 +13,4 @@ pub mod TermValues
 pub mod Numbers
 pub mod MonicLists
 pub mod Logs
+pub mod Heads
