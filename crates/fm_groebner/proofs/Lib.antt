@@ -14,3 +14,4 @@ pub mod Numbers
 pub mod MonicLists
 pub mod Logs
 pub mod Heads
+pub mod Bases
