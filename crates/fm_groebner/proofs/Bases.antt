@@ -100,20 +100,19 @@ module _ (p : Prime) (n m : ℕ) (o : Order) where
   pub divided_monic : (members : List (List (Polynomial p n))) → setting.IsMonic X (Divided members)
   divided_monic members g h d = (d.is h ∙ d.inverse, λ b l. d.is b ∙ ap ((gf p).mul d.factor) (d.is_head.1 b l) ∙ mul_zero (gf_laws p) d.factor)
 
+  pub inverse_of : (c : (gf p).Carrier) → ¬ (c ≡ (gf p).zero) → (f : (gf p).Carrier) × ((gf p).mul f c ≡ (gf p).one)
+  inverse_of c w = elim ((gf_field p).zero_or_inverse c) [
+    | inl z ↦ absurd (w z)
+    | inr f ↦ (f.0, (gf_laws p).mul_comm f.0 c ∙ f.1)
+  ]
+
   -- a vector with a head, divided by its leading coefficient
-  pub divide : (members : List (List (Polynomial p n))) (v : List (Polynomial p n)) → In members v → (h : ℕ × Monomial n) → setting.IsHead X (W v) h → (g : Vect X) × Divided members g h
-  divide members v i h hd = by_field ((gf_field p).zero_or_inverse (W v h))
-    where
-      by_field : (W v h ≡ (gf p).zero) ⊎ ((c : (gf p).Carrier) × ((gf p).mul (W v h) c ≡ (gf p).one)) → (g : Vect X) × Divided members g h
-      by_field (inl z) = absurd (hd.0 z)
-      by_field (inr c) = (λ b. (gf p).mul c.0 (W v b), record {
-        vector = v;
-        is_member = i;
-        is_head = hd;
-        factor = c.0;
-        inverse = (gf_laws p).mul_comm c.0 (W v h) ∙ c.1;
-        is = λ b. refl;
-      })
+  abbrev pub divided_by : (gf p).Carrier → List (Polynomial p n) → Vect X
+  divided_by f v b = (gf p).mul f (W v b)
+
+  pub divide : (members : List (List (Polynomial p n))) (v : List (Polynomial p n)) → In members v → (h : ℕ × Monomial n) → setting.IsHead X (W v) h
+      → (f : (gf p).Carrier) → (gf p).mul f (W v h) ≡ (gf p).one → Divided members (divided_by f v) h
+  divide members v i h hd f e = record { vector = v; is_member = i; is_head = hd; factor = f; inverse = e; is = λ b. refl }
 
   module _ (members gens : List (List (Polynomial p n))) (basis : IsGroebnerBasis p n o m members gens) where
     divided_heads : (i : ℕ) (a : Monomial n) → i ≤ m → HeadDivides p n o members i a.exponents → Divides X (Divided members) (m - i, a)
@@ -121,8 +120,8 @@ module _ (p : Prime) (n m : ℕ) (o : Order) where
         let l = image_length gens d.member (basis.inside d.member d.is_member) in
         let h = head_to p n m o d.member l i d.exponents d.is_head in
         let e : Monomial n = record { exponents = d.exponents; fits = h.2 } in
-        let g = divide members d.member (in_of_contains members d.member d.is_member) (m - i, e) h.3 in
-        record { by = difference a e; member = g.0; at = (m - i, e); in_G = g.1; is = same_place refl (times_comm (difference a e) e ∙ times_difference e a d.divides) }
+        let f = inverse_of (W d.member (m - i, e)) h.3.0 in
+        record { by = difference a e; member = divided_by f.0 d.member; at = (m - i, e); in_G = divide members d.member (in_of_contains members d.member d.is_member) (m - i, e) h.3 f.0 f.1; is = same_place refl (times_comm (difference a e) e ∙ times_difference e a d.divides) }
 
     -- a basis of vectors of polynomials is one of functions
     pub groebner_of_basis : IsGroebner X (Divided members) (Generated gens)

@@ -15,3 +15,4 @@ pub mod MonicLists
 pub mod Logs
 pub mod Heads
 pub mod Bases
+pub mod Membership

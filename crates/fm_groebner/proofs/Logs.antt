@@ -49,11 +49,11 @@ module _ (p : Prime) (n m : ℕ) (o : Order) (inputs : List (List Term)) where
   reduces_from e (done f) = done (λ b. e b ∙ f b)
   reduces_from {u = u} e (step {v = v} c a g h i nz f red) = step c a g h i (λ z. nz (sym (e _) ∙ z)) (λ b. f b ∙ ap ((gf p).add ((gf p).mul ((gf p).neg c) (shift X a g b))) (sym (e b))) red
 
-  old_member : {ms more : List (List Term)} {keep : Bool} {r : List Term} → IsKept p n m o ms keep r more → (k : ℕ) → k ≤ length ms → {g : Vect X} {h : ℕ × Monomial n} → MemberAt p n m o more k g h → MemberAt p n m o ms k g h
+  old_member : {ms more : List (List Term)} {keep : Bool} {r : List Term} → IsKept p ms keep r more → (k : ℕ) → k ≤ length ms → {g : Vect X} {h : ℕ × Monomial n} → MemberAt p n m o more k g h → MemberAt p n m o ms k g h
   old_member ke k l (member_at f mo i) = member_at f mo (kept_old p n m o ke l i)
 
   -- a kept rest of the span keeps the members in the span
-  kept_span : {ms more : List (List Term)} {keep : Bool} {r : List Term} → IsKept p n m o ms keep r more → IsFalling p n m o r → Span X Inputs (V p n m o r)
+  kept_span : {ms more : List (List Term)} {keep : Bool} {r : List Term} → IsKept p ms keep r more → IsFalling p n m o r → Span X Inputs (V p n m o r)
       → ((g : Vect X) (h : ℕ × Monomial n) → Members p n m o ms g h → Span X Inputs g) → (g : Vect X) (h : ℕ × Monomial n) → Members p n m o more g h → Span X Inputs g
   kept_span dropped f s old g h i = old g h i
   kept_span (kept {s = s} {r = r} c e) f sp old g h (k, member_at fx mo i) = elim (number_cases _ _ i) [
@@ -62,7 +62,7 @@ module _ (p : Prime) (n m : ℕ) (o : Order) (inputs : List (List Term)) where
         (λ b. scale_only (gf_laws p) (number p n m o c) (V p n m o (s ∷ r) b) (V p n m o (scaled_terms p c (s ∷ r)) b) (val_scaled p n m o c (s ∷ r) (all_fit p n m o (s ∷ r) f) b)))
   ]
 
-  good_more : {ms more : List (List Term)} {keep : Bool} {r : List Term} → IsKept p n m o ms keep r more → (a b : ℕ) → (a ≤ length ms) × (b ≤ length ms) × GoodAt ms a b
+  good_more : {ms more : List (List Term)} {keep : Bool} {r : List Term} → IsKept p ms keep r more → (a b : ℕ) → (a ≤ length ms) × (b ≤ length ms) × GoodAt ms a b
       → (a ≤ length more) × (b ≤ length more) × GoodAt more a b
   good_more ke a b q = (
     omega (arith, kept_length p n m o ke, q.0),
@@ -72,7 +72,7 @@ module _ (p : Prime) (n m : ℕ) (o : Order) (inputs : List (List Term)) where
 
   -- the vector that is taken up is a sum of multiples of the new members, and the rest is in the span
   module _ {ms more : List (List Term)} {by : List ℕ} {keep : Bool} {v r : List Term} (well : AllMonic p n m o ms)
-      (red : ReducesBy p n m o ms by v r) (falls : IsFalling p n m o v) (ke : IsKept p n m o ms keep r more) where
+      (red : ReducesBy p n m o ms by v r) (falls : IsFalling p n m o v) (ke : IsKept p ms keep r more) where
     taken_rep : Representation X (Members p n m o more) (Anywhere X) (V p n m o v)
     taken_rep = reduces_rep X (members_monic p n m o ms) (all_segment X) (λ g h i. (i.0, kept_member p n m o ke i.0 g h i.1)) (reduces_of_by p n m o well red falls)
         (λ b w. absurd (w tt)) (kept_rep p n m o ke (reduces_falling p n m o red falls))
@@ -111,7 +111,7 @@ module _ (p : Prime) (n m : ℕ) (o : Order) (inputs : List (List Term)) where
 
     -- a pair whose S-vector was taken up is good
     pair_good : {ms more : List (List Term)} {by : List ℕ} {keep : Bool} {v r : List Term} {a b : ℕ} → AllMonic p n m o ms → IsMonic (t ∷ ts) → IsMonic (u ∷ us)
-        → IsNumber ms a (t ∷ ts) → IsNumber ms b (u ∷ us) → IsSVector p n m o t u ts us v → ReducesBy p n m o ms by v r → IsKept p n m o ms keep r more
+        → IsNumber ms a (t ∷ ts) → IsNumber ms b (u ∷ us) → IsSVector p n m o t u ts us v → ReducesBy p n m o ms by v r → IsKept p ms keep r more
         → Good X (Members p n m o more) (V p n m o (t ∷ ts)) (head_place p n m o (t ∷ ts) ft) (V p n m o (u ∷ us)) (head_place p n m o (u ∷ us) fu)
     pair_good {ms} {r = r} {a = a} {b = b} well mt mu i j sv by_red ke =
         let red = reduces_from (s_vector_is _ sv) (reduces_of_by p n m o well by_red sv.falls) in
@@ -133,7 +133,7 @@ module _ (p : Prime) (n m : ℕ) (o : Order) (inputs : List (List Term)) where
           (λ c. sym (s_vector_is v sv c))
 
     -- what divides the least common multiple of two heads divides each common multiple
-    lcm_divided : (f : Term) (fs : List Term) (ff : IsFalling p n m o (f ∷ fs)) → DividesLcm p n m o f t u → (a b : Monomial n)
+    lcm_divided : (f : Term) (fs : List Term) (ff : IsFalling p n m o (f ∷ fs)) → DividesLcm f t u → (a b : Monomial n)
         → X.◌•◌ a (head_place p n m o (t ∷ ts) ft) ≡ X.◌•◌ b (head_place p n m o (u ∷ us) fu) → (i : Monomial n) × (X.◌•◌ i (head_place p n m o (f ∷ fs) ff) ≡ X.◌•◌ a (head_place p n m o (t ∷ ts) ft))
     lcm_divided f fs ff d = divides_common X {d = difference (maximum left right) (monomial_of f (fits_of p n m o f ff.0))} heads_lcm
         (same_place (ap (λ x. m - x) d.1)
@@ -156,7 +156,7 @@ module _ (p : Prime) (n m : ℕ) (o : Order) (inputs : List (List Term)) where
       no_member (member_at f mo i) = elim i [ ]
 
   after_input : {ms more : List (List Term)} {taken : List ℕ} {treated : List (ℕ × ℕ)} {by : List ℕ} {keep : Bool} {v r : List Term} → Invariant ms taken treated → (k : ℕ)
-      → IsNumber inputs k v → IsFalling p n m o v → ReducesBy p n m o ms by v r → IsKept p n m o ms keep r more → Invariant more (k ∷ taken) treated
+      → IsNumber inputs k v → IsFalling p n m o v → ReducesBy p n m o ms by v r → IsKept p ms keep r more → Invariant more (k ∷ taken) treated
   after_input {ms} {more} {taken} {v = v} inv k i f red ke = record {
     well = kept_monic p n m o ke (reduces_falling p n m o red f) inv.well;
     members = kept_span ke (reduces_falling p n m o red f) (rest_span inv.well red f ke inv.members (input_span i)) inv.members;
@@ -176,7 +176,7 @@ module _ (p : Prime) (n m : ℕ) (o : Order) (inputs : List (List Term)) where
   ]
 
   after_pair : {ms more : List (List Term)} {taken : List ℕ} {treated : List (ℕ × ℕ)} {by : List ℕ} {keep : Bool} {t u : Term} {ts us v r : List Term} → Invariant ms taken treated → (a b : ℕ)
-      → IsNumber ms a (t ∷ ts) → IsNumber ms b (u ∷ us) → IsSVector p n m o t u ts us v → ReducesBy p n m o ms by v r → IsKept p n m o ms keep r more → Invariant more taken ((a, b) ∷ treated)
+      → IsNumber ms a (t ∷ ts) → IsNumber ms b (u ∷ us) → IsSVector p n m o t u ts us v → ReducesBy p n m o ms by v r → IsKept p ms keep r more → Invariant more taken ((a, b) ∷ treated)
   after_pair {ms} {more} {taken} {treated} {t = t} {u = u} {ts = ts} {us = us} {v = v} inv a b i j sv red ke =
       let wt = inv.well a (t ∷ ts) i in
       let wu = inv.well b (u ∷ us) j in
@@ -194,12 +194,12 @@ module _ (p : Prime) (n m : ℕ) (o : Order) (inputs : List (List Term)) where
           (λ c d k. good_more ke c d (inv.good c d k));
       }
 
-  treated_good : {ms : List (List Term)} {taken : List ℕ} {treated : List (ℕ × ℕ)} → Invariant ms taken treated → (a b : ℕ) → IsTreated p n m o treated a b → GoodAt ms a b
+  treated_good : {ms : List (List Term)} {taken : List ℕ} {treated : List (ℕ × ℕ)} → Invariant ms taken treated → (a b : ℕ) → IsTreated treated a b → GoodAt ms a b
   treated_good inv a b (inl c) = (inv.good a b c).2
   treated_good inv a b (inr c) = λ g h g' h' i j. good_sym X g' h' g h ((inv.good b a c).2 g' h' g h j i)
 
   after_skip : {ms : List (List Term)} {taken : List ℕ} {treated : List (ℕ × ℕ)} {t u f : Term} {ts us fs : List Term} → Invariant ms taken treated → (a b k : ℕ)
-      → IsNumber ms a (t ∷ ts) → IsNumber ms b (u ∷ us) → IsNumber ms k (f ∷ fs) → DividesLcm p n m o f t u → IsTreated p n m o treated a k → IsTreated p n m o treated k b
+      → IsNumber ms a (t ∷ ts) → IsNumber ms b (u ∷ us) → IsNumber ms k (f ∷ fs) → DividesLcm f t u → IsTreated treated a k → IsTreated treated k b
       → Invariant ms taken ((a, b) ∷ treated)
   after_skip {ms} {taken} {treated} {t} {u} {f} {ts} {us} {fs} inv a b k i j l d ak kb =
       let wt = inv.well a (t ∷ ts) i in

@@ -118,11 +118,11 @@ module _ (p : Prime) (n m : ℕ) (o : Order) where
     scaled_falling c s e ts f.2,
   )
 
-  pub kept_number : {ms more : List (List Term)} {keep : Bool} {r : List Term} → IsKept p n m o ms keep r more → {k : ℕ} {x : List Term} → IsNumber ms k x → IsNumber more k x
+  pub kept_number : {ms more : List (List Term)} {keep : Bool} {r : List Term} → IsKept p ms keep r more → {k : ℕ} {x : List Term} → IsNumber ms k x → IsNumber more k x
   kept_number dropped i = i
   kept_number (kept c e) i = number_left _ i
 
-  pub kept_length : {ms more : List (List Term)} {keep : Bool} {r : List Term} → IsKept p n m o ms keep r more → length ms ≤ length more
+  pub kept_length : {ms more : List (List Term)} {keep : Bool} {r : List Term} → IsKept p ms keep r more → length ms ≤ length more
   kept_length dropped = omega arith
   kept_length (kept {s = s} {r = r} c e) = longer _ _
     where
@@ -130,14 +130,14 @@ module _ (p : Prime) (n m : ℕ) (o : Order) where
       longer [] x = omega arith
       longer (y ∷ ms) x = let h = longer ms x in omega (arith, h)
 
-  pub kept_old : {ms more : List (List Term)} {keep : Bool} {r : List Term} → IsKept p n m o ms keep r more → {k : ℕ} {x : List Term} → k ≤ length ms → IsNumber more k x → IsNumber ms k x
+  pub kept_old : {ms more : List (List Term)} {keep : Bool} {r : List Term} → IsKept p ms keep r more → {k : ℕ} {x : List Term} → k ≤ length ms → IsNumber more k x → IsNumber ms k x
   kept_old dropped h i = i
   kept_old (kept c e) h i = elim (number_cases _ _ i) [ inl j ↦ j | inr q ↦ let l = q.0 in absurd (omega (arith, h, l)) ]
 
-  pub kept_member : {ms more : List (List Term)} {keep : Bool} {r : List Term} → IsKept p n m o ms keep r more → (k : ℕ) (g : Vect T) (h : ℕ × Monomial n) → MemberAt ms k g h → MemberAt more k g h
+  pub kept_member : {ms more : List (List Term)} {keep : Bool} {r : List Term} → IsKept p ms keep r more → (k : ℕ) (g : Vect T) (h : ℕ × Monomial n) → MemberAt ms k g h → MemberAt more k g h
   kept_member ke k g h (member_at f mo i) = member_at f mo (kept_number ke i)
 
-  pub kept_monic : {ms more : List (List Term)} {keep : Bool} {r : List Term} → IsKept p n m o ms keep r more → IsFalling p n m o r → AllMonic ms → AllMonic more
+  pub kept_monic : {ms more : List (List Term)} {keep : Bool} {r : List Term} → IsKept p ms keep r more → IsFalling p n m o r → AllMonic ms → AllMonic more
   kept_monic dropped f well k x i = well k x i
   kept_monic (kept {s = s} {r = r} c e) f well k x i = elim (number_cases _ _ i) [
     | inl j ↦ well k x j
@@ -153,7 +153,7 @@ module _ (p : Prime) (n m : ℕ) (o : Order) where
       ∙ ap (λ x. (gf p).mul x (V (s ∷ r) b)) ((gf_laws p).mul_comm (num s.coefficient) (num c) ∙ sym (number_times p n m o c s.coefficient) ∙ ap num e)
       ∙ (gf_laws p).one_mul (V (s ∷ r) b))
 
-  pub kept_rep : {ms more : List (List Term)} {keep : Bool} {r : List Term} → IsKept p n m o ms keep r more → IsFalling p n m o r → Representation T (Members more) (Anywhere T) (V r)
+  pub kept_rep : {ms more : List (List Term)} {keep : Bool} {r : List Term} → IsKept p ms keep r more → IsFalling p n m o r → Representation T (Members more) (Anywhere T) (V r)
   kept_rep dropped f = lin_zero (val_nil p n m o)
   kept_rep (kept {s = s} {r = r} c e) f =
       lin_comb (num s.coefficient)
@@ -163,7 +163,7 @@ module _ (p : Prime) (n m : ℕ) (o : Order) where
         (λ b. scale_only (gf_laws p) (num s.coefficient) (shift T T.one (V (scaled_terms p c (s ∷ r))) b) (V (s ∷ r) b)
           (back_of c s r e f b ∙ ap ((gf p).mul (num s.coefficient)) (sym (shift_one T (V (scaled_terms p c (s ∷ r))) b))))
 
-  pub kept_low : {ms more : List (List Term)} {keep : Bool} {r : List Term} → IsKept p n m o ms keep r more → IsFalling p n m o r
+  pub kept_low : {ms more : List (List Term)} {keep : Bool} {r : List Term} → IsKept p ms keep r more → IsFalling p n m o r
       → (a : ℕ × Monomial n) → ((b : ℕ × Monomial n) → ¬ (T.Less b a) → V r b ≡ (gf p).zero) → Low T (Members more) a (V r)
   kept_low dropped f a z = lin_zero (val_nil p n m o)
   kept_low (kept {s = s} {r = r} c e) f a z =

@@ -24,6 +24,25 @@ pub record Entry : Type 0 where
   pub by : List ℕ
   pub keep : Bool
 
+-- the head of r, if it has one, is divisible by no member's head
+abbrev pub IsIrreducible : List (List Term) → List Term → Type 0
+IsIrreducible members [] = Unit {0}
+IsIrreducible members (s ∷ r) = (t : Term) (ts : List Term) → Contains members (t ∷ ts) → ¬ (TermDivides t s)
+
+-- the pair of a and b, in either order, is among those treated
+abbrev pub IsTreated : List (ℕ × ℕ) → ℕ → ℕ → Type 0
+IsTreated treated a b = Contains treated (a, b) ⊎ Contains treated (b, a)
+
+-- the head f has the component of t and u and divides their least common multiple
+abbrev pub DividesLcm : Term → Term → Term → Type 0
+DividesLcm f t u = (t.component ≡ u.component) × (f.component ≡ t.component) × TupleDivides f.exponents (tuple_maximum t.exponents u.exponents)
+
+module _ (p : Prime) where
+  -- what becomes of a rest: one that is zero is dropped; another, made monic, is the next member
+  pub data IsKept (members : List (List Term)) : Bool → List Term → List (List Term) → Type 0 where
+    dropped : IsKept members false [] members
+    kept : {s : Term} {r : List Term} (c : ℕ) → (c * s.coefficient) % prime_value p ≡ 1 → IsKept members true (s ∷ r) (members ++ scaled_terms p c (s ∷ r) ∷ [])
+
 module _ (p : Prime) (n m : ℕ) (o : Order) where
   -- Reduction of a head: each number in turn is that of a member whose head divides the head of the current vector, from which the multiple of the member is taken away that cancels its head
   pub data ReducesBy (members : List (List Term)) : List ℕ → List Term → List Term → Type 0 where
@@ -33,16 +52,6 @@ module _ (p : Prime) (n m : ℕ) (o : Order) where
         → vector_of p n m (v ++ multiple_terms p c (tuple_difference s.exponents t.exponents) (t ∷ ts)) ≡ vector_of p n m (s ∷ vs)
         → ReducesBy members by v r → ReducesBy members (k ∷ by) (s ∷ vs) r
 
-  -- the head of r, if it has one, is divisible by no member's head
-  abbrev pub IsIrreducible : List (List Term) → List Term → Type 0
-  IsIrreducible members [] = Unit {0}
-  IsIrreducible members (s ∷ r) = (t : Term) (ts : List Term) → Contains members (t ∷ ts) → ¬ (TermDivides t s)
-
-  -- what becomes of a rest: one that is zero is dropped; another, made monic, is the next member
-  pub data IsKept (members : List (List Term)) : Bool → List Term → List (List Term) → Type 0 where
-    dropped : IsKept members false [] members
-    kept : {s : Term} {r : List Term} (c : ℕ) → (c * s.coefficient) % prime_value p ≡ 1 → IsKept members true (s ∷ r) (members ++ scaled_terms p c (s ∷ r) ∷ [])
-
   -- v is the S-vector of two monic vectors with heads t and u in one component: the difference of their multiples whose heads are the least common multiple of t and u
   pub record IsSVector (t u : Term) (ts us v : List Term) : Type 0 where
     pub one_component : t.component ≡ u.component
@@ -50,24 +59,16 @@ module _ (p : Prime) (n m : ℕ) (o : Order) where
     pub is : vector_of p n m (v ++ multiple_terms p 1 (tuple_difference (tuple_maximum t.exponents u.exponents) u.exponents) (u ∷ us))
         ≡ vector_of p n m (multiple_terms p 1 (tuple_difference (tuple_maximum t.exponents u.exponents) t.exponents) (t ∷ ts))
 
-  -- the pair of a and b, in either order, is among those treated
-  abbrev pub IsTreated : List (ℕ × ℕ) → ℕ → ℕ → Type 0
-  IsTreated treated a b = Contains treated (a, b) ⊎ Contains treated (b, a)
-
-  -- the head f has the component of t and u and divides their least common multiple
-  abbrev pub DividesLcm : Term → Term → Term → Type 0
-  DividesLcm f t u = (t.component ≡ u.component) × (f.component ≡ t.component) × TupleDivides f.exponents (tuple_maximum t.exponents u.exponents)
-
   -- a log of free steps, with its members, the numbers of the inputs taken and the pairs treated
   pub data FreeRun (inputs : List (List Term)) : List Entry → List (List Term) → List ℕ → List (ℕ × ℕ) → Type 0 where
     begin : FreeRun inputs [] [] [] []
     take_input : {log : List Entry} {members more : List (List Term)} {taken : List ℕ} {treated : List (ℕ × ℕ)} {v r : List Term} {keep : Bool}
         → FreeRun inputs log members taken treated → (k : ℕ) (by : List ℕ) → ¬ (Contains taken k) → IsNumber inputs k v → IsFalling p n m o v
-        → ReducesBy members by v r → IsKept members keep r more
+        → ReducesBy members by v r → IsKept p members keep r more
         → FreeRun inputs (log ++ record { start = Input k; by = by; keep = keep } ∷ []) more (k ∷ taken) treated
     take_pair : {log : List Entry} {members more : List (List Term)} {taken : List ℕ} {treated : List (ℕ × ℕ)} {t u : Term} {ts us v r : List Term} {keep : Bool}
         → FreeRun inputs log members taken treated → (a b : ℕ) (by : List ℕ) → a < b → ¬ (Contains treated (a, b))
-        → IsNumber members a (t ∷ ts) → IsNumber members b (u ∷ us) → IsSVector t u ts us v → ReducesBy members by v r → IsKept members keep r more
+        → IsNumber members a (t ∷ ts) → IsNumber members b (u ∷ us) → IsSVector t u ts us v → ReducesBy members by v r → IsKept p members keep r more
         → FreeRun inputs (log ++ record { start = Pair a b; by = by; keep = keep } ∷ []) more taken ((a, b) ∷ treated)
     skip_pair : {log : List Entry} {members : List (List Term)} {taken : List ℕ} {treated : List (ℕ × ℕ)} {t u f : Term} {ts us fs : List Term}
         → FreeRun inputs log members taken treated → (a b k : ℕ) → a < b → k ≢ a → k ≢ b → ¬ (Contains treated (a, b))
