@@ -118,6 +118,10 @@ module _ {R : Ring} (L : IsRing R) where
           (λ s c h. ap (λ v. v ⊗ stack R x y s c j b) (either_left {n = n} {k = k} s c (cases_lt s n) (λ j h. A i a j h) (λ j h. B i a j h) h) ∙ ap (λ v. A i a s h ⊗ v) (either_left {n = n} {k = k} s c (cases_lt s n) (λ i h. x i h j b) (λ i h. y i h j b) h))
           (λ s c h. ap (λ v. v ⊗ stack R x y (n + s) c j b) (either_right {n = n} {k = k} s c (cases_lt (n + s) n) (λ j h. A i a j h) (λ j h. B i a j h) h) ∙ ap (λ v. B i a s h ⊗ v) (either_right {n = n} {k = k} s c (cases_lt (n + s) n) (λ i h. x i h j b) (λ i h. y i h j b) h))
 
+  pub flip_beside : {m n k : ℕ} (A : Mat R m n) (B : Mat R m k) → flip R (beside R A B) ≡ stack R (flip R A) (flip R B)
+  unfolding flip beside stack
+  flip_beside A B = refl
+
   -- the entries of a split are those of the whole
   either_whole : (n k : ℕ) (f : (i : ℕ) → i < n + k → Carrier) (i : ℕ) (a : i < n + k) (t : (i < n) ⊎ (n ≤ i))
       → f i a ≡ either R {n = n} {k = k} i a t (λ i h. f i (front k h)) (λ i h. f (n + i) (back n h))
@@ -225,6 +229,11 @@ module _ {R : Ring} (L : IsRing R) where
         → each R (twist e) (beside R A B) ≡ beside R (each R (twist e) A) (each R (twist e) B)
     unfolding each beside
     each_beside e {m} {n} {k} A B = λ t i a j b. each_either e {n = n} {k = k} j b (cases_lt j n) (λ j h. A i a j h) (λ j h. B i a j h) t
+
+    pub each_stack : (e : ℕ) {m n k : ℕ} (A : Mat R m n) (B : Mat R k n)
+        → each R (twist e) (stack R A B) ≡ stack R (each R (twist e) A) (each R (twist e) B)
+    unfolding each stack
+    each_stack e {m} {n} {k} A B = λ t i a j b. each_either e {n = m} {k = k} i a (cases_lt i m) (λ i h. A i h j b) (λ i h. B i h j b) t
 
     -- ---- the laws of the interface
     pub families_laws : IsMatrices (families R twist)

@@ -4,7 +4,7 @@ use Rattle.std.proofs.lemmas.Bool.{eq-eqb, ne_eqb, cases_eq}
 use native.Mathlib.Bridge.{le_prop}
 use Rattle.fm_algebra.specs.Ring.{Ring, IsRing}
 use Rattle.fm_algebra.specs.FiniteSums.{below, last, finite_sum}
-use Rattle.fm_algebra.proofs.Algebra.{add_zero, add_mul, add_swap, mul_zero, zero_mul}
+use Rattle.fm_algebra.proofs.Algebra.{add_zero, add_swap, mul_zero}
 
 -- the bounds of the last summands of a sum of n + (m + 1)
 pub shift : (n m : ℕ) {k : ℕ} → k < suc (n + m) → k < n + suc m

@@ -1,12 +1,20 @@
 -- Flatness of Frobenius from slices
 use Rattle.std.proofs.Common.{ℕ, zero, suc, ◌<◌, ◌≡◌, ◌∙◌, sym, ap, arith}
-use Rattle.fm_algebra.specs.Ring.{Ring, IsRing, IsFrobenius, IsSliced}
+use Rattle.fm_algebra.specs.Ring.{Ring, IsRing, IsSliced}
 use Rattle.fm_algebra.specs.FiniteSums.{below, last, finite_sum}
 use Rattle.fm_algebra.specs.Families.{only, Mat, delta, mul, each, families}
 use Rattle.fm_algebra.specs.Image.{InImage, Flat}
-use Rattle.fm_algebra.proofs.Algebra.{add_zero, add_cancel, mul_one}
+use Rattle.fm_algebra.proofs.Algebra.{add_zero, add_cancel}
 use Rattle.fm_algebra.proofs.FiniteSums.{index, sum_ext}
 use Rattle.fm_algebra.proofs.FamilyLaws.{sum_at}
+
+-- a finite type: each member has a place below a number, and stands there
+pub record IsListed (I : Type 0) : Type 0 where
+  pub count : ℕ
+  pub member : (k : ℕ) → k < count → I
+  pub place : I → ℕ
+  pub inside : (c : I) → place c < count
+  pub found : (c : I) → member (place c) (inside c) ≡ c
 
 module _ {R : Ring} (L : IsRing R) where
   open R use {Carrier, zero as 𝟘, one as 𝟙, add as ◌⊕◌, mul as ◌⊗◌}
@@ -48,8 +56,10 @@ module _ {R : Ring} (L : IsRing R) where
     unfolding each
     each_slice_origin v = λ t i a j b. S.slice_origin (v i a j b) t
 
-    -- ---- the slices in a list: each has a place below a number, and at the place it stands
-    module _ (count : ℕ) (member : (k : ℕ) → k < count → I) (place : I → ℕ) (inside : (c : I) → place c < count) (found : (c : I) → member (place c) (inside c) ≡ c) where
+    -- ---- finitely many slices
+    module _ (N : IsListed I) where
+      open N use {count, member, place, inside, found}
+
       -- the matrix whose columns are the slices of a vector
       pub slices : {n : ℕ} → Mat R n 1 → Mat R n count
       slices w i a j b = slice (member j b) (w i a zero only)

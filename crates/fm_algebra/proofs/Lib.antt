@@ -6,6 +6,8 @@ pub mod FamilyLaws
 pub mod Tables
 pub mod Images
 pub mod Flatness
+pub mod ListImages
+pub mod MatrixLaws
 pub mod Gf
 pub mod Poly
 pub mod PolyRing
@@ -18,3 +20,6 @@ pub mod Monomial
 pub mod Binomial
 pub mod Frobenius
 pub mod Concrete
+pub mod DigitsListed
+pub mod PolynomialMatrices
+pub mod FamilyPowers

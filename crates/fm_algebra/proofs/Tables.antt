@@ -3,13 +3,12 @@ use Rattle.std.proofs.Common.{ℕ, zero, suc, ◌+◌, ◌-◌, ◌<◌, ◌≤�
 use native.Mathlib.Bridge.{le_prop}
 use Rattle.std.proofs.Math.ListN.{get_or-map}
 use Rattle.std.proofs.lemmas.Bool.{cases_lt, lt-ltb, le-ltb}
-use Rattle.std.proofs.lemmas.List.{ext_get_or, get_or-replicate, length-replicate}
+use Rattle.std.proofs.lemmas.List.{get_or-map as get_or_map, ext_get_or, get_or-replicate}
 use Rattle.std.proofs.lemmas.List.FromFn.{length-map-range_with_len, get_or-map-range_with_len}
-use Rattle.fm_algebra.specs.Ring.{Ring, IsRing}
+use Rattle.fm_algebra.specs.Ring.{Ring}
 use Rattle.fm_algebra.specs.FiniteSums.{finite_sum}
-use Rattle.fm_algebra.specs.Matrix.{Matrix, cols, component, entry, listed, table, IsShaped, column_matrix, product, apply, sum, negative, zero_matrix, scalar_matrix, unit_matrix, transpose, entrywise, joined, stacked}
-use Rattle.fm_algebra.specs.Families.{Mat, mul, add, neg, nil, unit, flip, each, scalar, either, beside, stack, rest, read, vector, element}
-use Rattle.fm_algebra.proofs.FiniteSums.{sum_cast}
+use Rattle.fm_algebra.specs.Matrix.{Matrix, cols, component, entry, listed, table, IsShaped, column_matrix, product, apply, sum, negative, zero_matrix, scalar_matrix, unit_matrix, transpose, entrywise, joined, stacked, picked}
+use Rattle.fm_algebra.specs.Families.{Mat, mul, add, neg, nil, unit, flip, each, scalar, either, beside, stack, read, vector, element}
 
 pub length-listed : {X : Type 0} (n : ℕ) (f : ℕ → X) → length (listed n f) ≡ n
 unfolding listed
@@ -31,8 +30,8 @@ module _ (R : Ring) where
     p,
     length-listed c (λ j. listed r (λ i. f i j)) ∙ q,
     λ j h. ap length (get_or-listed c j [] (λ j. listed r (λ i. f i j)) (subst (λ x. j < x) (sym q) h))
-    ∙ length-listed r (λ i. f i j)
-    ∙ p,
+        ∙ length-listed r (λ i. f i j)
+        ∙ p,
   )
 
   -- the numbers of rows and columns of a table
@@ -73,6 +72,10 @@ module _ (R : Ring) where
     where
       sum_cast_at : (i j : ℕ) → finite_sum R (cols R A) (λ s h. R.mul (entry R A i s) (entry R B s j)) ≡ finite_sum R n (λ s h. R.mul (entry R A i s) (entry R B s j))
       sum_cast_at i j = ap (λ x. finite_sum R x (λ s h. R.mul (entry R A i s) (entry R B s j))) q
+
+  pub product_shaped : (m k : ℕ) (A B : Matrix R) → A.rows ≡ m → cols R B ≡ k → IsShaped R m k (product R A B)
+  unfolding product
+  product_shaped m k A B p q = table_shaped A.rows (cols R B) m k (λ i j. finite_sum R (cols R A) (λ s h. R.mul (entry R A i s) (entry R B s j))) p q
 
   pub read_sum : (m n : ℕ) (A B : Matrix R) → A.rows ≡ m → cols R A ≡ n → read R m n (sum R A B) ≡ add R (read R m n A) (read R m n B)
   unfolding sum add
@@ -214,3 +217,47 @@ module _ (R : Ring) where
     where
       go : (i : ℕ) (a : i < n) (j : ℕ) (b : j < 1) → entry_of X i zero ≡ X i a j b
       go i a j b = let z : zero ≡ j = omega arith in ap (λ x. entry_of X i x) z ∙ entry_of_is X i a j b
+
+  -- ---- shapes of results
+  pub sum_shaped : (m n : ℕ) (A B : Matrix R) → A.rows ≡ m → cols R A ≡ n → IsShaped R m n (sum R A B)
+  unfolding sum
+  sum_shaped m n A B p q = table_shaped A.rows (cols R A) m n (λ i j. R.add (entry R A i j) (entry R B i j)) p q
+
+  pub negative_shaped : (m n : ℕ) (A : Matrix R) → A.rows ≡ m → cols R A ≡ n → IsShaped R m n (negative R A)
+  unfolding negative
+  negative_shaped m n A p q = table_shaped A.rows (cols R A) m n (λ i j. R.neg (entry R A i j)) p q
+
+  pub zero_shaped : (m n : ℕ) → IsShaped R m n (zero_matrix R m n)
+  unfolding zero_matrix
+  zero_shaped m n = table_shaped m n m n (λ i j. R.zero) refl refl
+
+  pub scalar_shaped : (f : R.Carrier) (n : ℕ) → IsShaped R n n (scalar_matrix R f n)
+  unfolding scalar_matrix
+  scalar_shaped f n = table_shaped n n n n (λ i j. cond (eqb i j) f R.zero) refl refl
+
+  pub unit_shaped : (n : ℕ) → IsShaped R n n (unit_matrix R n)
+  unfolding unit_matrix
+  unit_shaped n = scalar_shaped R.one n
+
+  pub transpose_shaped : (m n : ℕ) (A : Matrix R) → A.rows ≡ m → cols R A ≡ n → IsShaped R n m (transpose R A)
+  unfolding transpose
+  transpose_shaped m n A p q = table_shaped (cols R A) A.rows n m (λ i j. entry R A j i) q p
+
+  pub entrywise_shaped : (t : R.Carrier → R.Carrier) (m n : ℕ) (A : Matrix R) → A.rows ≡ m → cols R A ≡ n → IsShaped R m n (entrywise R t A)
+  unfolding entrywise
+  entrywise_shaped t m n A p q = table_shaped A.rows (cols R A) m n (λ i j. t (entry R A i j)) p q
+
+  pub joined_shaped : (m n k : ℕ) (A B : Matrix R) → A.rows ≡ m → cols R A ≡ n → cols R B ≡ k → IsShaped R m (n + k) (joined R A B)
+  unfolding joined
+  joined_shaped m n k A B p q r =
+      table_shaped A.rows (cols R A + cols R B) m (n + k) (λ i j. cond (ltb j (cols R A)) (entry R A i j) (entry R B i (j - cols R A))) p (ap₂ (λ x y. x + y) q r)
+
+  pub stacked_shaped : (m n k : ℕ) (A B : Matrix R) → A.rows ≡ m → B.rows ≡ k → cols R A ≡ n → IsShaped R (m + k) n (stacked R A B)
+  unfolding stacked
+  stacked_shaped m n k A B p q r =
+      table_shaped (A.rows + B.rows) (cols R A) (m + k) n (λ i j. cond (ltb i A.rows) (entry R A i j) (entry R B (i - A.rows) j)) (ap₂ (λ x y. x + y) p q) r
+
+  -- ---- picked columns
+  pub entry_picked : (A : Matrix R) (js : List ℕ) (i j : ℕ) → j < length js → entry R (picked R A js) i j ≡ entry R A i (get_or js j zero)
+  unfolding entry picked
+  entry_picked A js i j h = ap (λ c. get_or c i R.zero) (get_or_map (λ j. get_or A.columns j []) js j zero [] h)

@@ -1,5 +1,5 @@
 -- Matrices over a ring as families of entries, typed by rows and columns: the instance of the interface.
-use Rattle.std.specs.Prelude.{ℕ, zero, suc, ◌+◌, ◌-◌, ◌<◌, ◌≤◌, ◌⊎◌, cond, eqb, List, ◌∷◌, []}
+use Rattle.std.specs.Prelude.{ℕ, zero, ◌+◌, ◌-◌, ◌<◌, ◌≤◌, ◌⊎◌, cond, eqb, List}
 use mathlib.Core.Logic.{inl, inr}
 use native.Mathlib.Nat.{zero-lt-suc, sub-lt_left_of_lt-add, lt_of_lt_of_le, le-add_right, add-lt-add_of_le_of_lt, le_refl}
 use Rattle.std.proofs.lemmas.Bool.{cases_lt}

@@ -14,3 +14,4 @@ pub mod FiniteSums
 pub mod Matrix
 pub mod Families
 pub mod Image
+pub mod PolynomialMatrices

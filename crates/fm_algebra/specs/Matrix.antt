@@ -94,3 +94,7 @@ module _ (R : Ring) where
   -- w is in ker A: A * w = 0
   abbrev pub InListKernel : Matrix R → List R.Carrier → Type 0
   InListKernel A w = (length w ≡ cols A) × (apply A w ≡ replicate A.rows R.zero)
+
+  -- A * w is in im B
+  abbrev pub InListPreimage : Matrix R → Matrix R → List R.Carrier → Type 0
+  InListPreimage A B w = (length w ≡ cols A) × InListImage B (apply A w)

@@ -1,1 +1,3 @@
 // The laws of the algebra.
+
+pub mod matrices;
