@@ -84,6 +84,14 @@ module _ {K : Ring} (L : IsRing K) (n : ℕ) where
   unit_covers (suc m) (zero ∷ a) e = elim (unit_covers m a (omega arith)) [ inl z ↦ inl z | inr s ↦ inr (ap (λ x. 0 ∷ x) s) ]
   unit_covers (suc m) (suc k ∷ a) e = inl refl
 
+  pub unit_at_zeros : (m : ℕ) → unit K (replicate m 0) ≡ 𝟙
+  unfolding unit
+  unit_at_zeros zero = refl
+  unit_at_zeros (suc m) = unit_at_zeros m
+
+  pub unit_elsewhere : (m : ℕ) (a : List ℕ) → length a ≡ m → ¬ (a ≡ replicate m 0) → unit K a ≡ 𝟘
+  unit_elsewhere m a l w = elim (unit_covers m a l) [ inl z ↦ z | inr s ↦ absurd (w s) ]
+
 -- ---- the ring
 module _ (K : Ring) (L : IsRing K) (is_zero : (c : K.Carrier) → Dec (c ≡ K.zero)) (n : ℕ) where
   open K use {Carrier, zero as 𝟘, one as 𝟙, add as ◌⊕◌, mul as ◌⊗◌, neg}

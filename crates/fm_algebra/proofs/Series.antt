@@ -5,7 +5,7 @@ use mathlib.Core.HLevel.{Π_set}
 use Rattle.fm_algebra.specs.Ring.{Ring, IsRing}
 use Rattle.fm_algebra.specs.Splits.{over_splits}
 use Rattle.fm_algebra.specs.Series.{Series, series, times, unit}
-use Rattle.fm_algebra.proofs.Algebra.{zero_mul}
+use Rattle.fm_algebra.proofs.Algebra.{add_zero, zero_mul}
 use Rattle.fm_algebra.proofs.Sums.{pairs_first, splits_same, splits_zero, splits_add, splits_mul, splits_turned, splits_assoc}
 
 module _ {K : Ring} (L : IsRing K) where
@@ -18,7 +18,7 @@ module _ {K : Ring} (L : IsRing K) where
   unfolding over_splits unit
   unit_times [] g = one_mul (g [])
   unit_times (k ∷ a) g =
-      pairs_first L k _ (λ i j. splits_same ◌⊕◌ a (λ b c. zero_mul L (g (j ∷ c))) ∙ splits_zero L a)
+      pairs_first ◌⊕◌ 𝟘 zero_add (add_zero L) k _ (λ i j. splits_same ◌⊕◌ a (λ b c. zero_mul L (g (j ∷ c))) ∙ splits_zero L a)
       ∙ unit_times a (λ c. g (k ∷ c))
 
   times_assoc : (f g h : Series K) (a : List ℕ) → times K (times K f g) h a ≡ times K f (times K g h) a

@@ -4,7 +4,7 @@ use mathlib.Core.Path.{fun_ext}
 use Rattle.fm_tuple.specs.Tuple.{tuple_sum}
 use Rattle.fm_algebra.specs.Ring.{Ring, IsRing}
 use Rattle.fm_algebra.specs.Splits.{over_pairs, over_splits}
-use Rattle.fm_algebra.proofs.Algebra.{add_left_comm, add_swap}
+use Rattle.fm_algebra.proofs.Algebra.{add_zero, add_left_comm, add_swap}
 
 -- b + c = a, entry by entry
 pub data IsSum : List ℕ → List ℕ → List ℕ → Type 0 where
@@ -47,6 +47,58 @@ module _ {A : Type 0} (add : A → A → A) where
   splits_same_if [] h = h [] [] none
   splits_same_if (k ∷ a) h = pairs_same_if k (λ i j e. splits_same_if a (λ b c s. h (i ∷ b) (j ∷ c) (more e s)))
 
+-- ---- sums in which one summand counts, in any commutative monoid
+module _ {A : Type 0} (add : A → A → A) (nil : A) (left : (a : A) → add nil a ≡ a) (right : (a : A) → add a nil ≡ a) where
+  pub pairs_all_zero : (k : ℕ) → over_pairs add k (λ i j. nil) ≡ nil
+  unfolding over_pairs
+  pairs_all_zero zero = refl
+  pairs_all_zero (suc k) = left _ ∙ pairs_all_zero k
+
+  pub splits_all_zero : (a : List ℕ) → over_splits add a (λ b c. nil) ≡ nil
+  unfolding over_splits
+  splits_all_zero [] = refl
+  splits_all_zero (k ∷ a) = pairs_same add k (λ i j. splits_all_zero a) ∙ pairs_all_zero k
+
+  -- all pairs but the first give 0
+  pub pairs_first : (k : ℕ) (F : ℕ → ℕ → A) → ((i j : ℕ) → F (suc i) j ≡ nil) → over_pairs add k F ≡ F 0 k
+  unfolding over_pairs
+  pairs_first zero F h = refl
+  pairs_first (suc k) F h = ap (add (F 0 (suc k))) (pairs_same add k h ∙ pairs_all_zero k) ∙ right _
+
+  -- all pairs give 0
+  pairs_none : (k : ℕ) (F : ℕ → ℕ → A) → ((i j : ℕ) → i + j ≡ k → F i j ≡ nil) → over_pairs add k F ≡ nil
+  pairs_none k F h = pairs_same_if add k h ∙ pairs_all_zero k
+
+  -- only the pair of i and j counts
+  pairs_single : (k i j : ℕ) (F : ℕ → ℕ → A) → i + j ≡ k → ((u v : ℕ) → u + v ≡ k → ¬ (u ≡ i) → F u v ≡ nil) → over_pairs add k F ≡ F i j
+  unfolding over_pairs
+  pairs_single zero zero zero F e h = refl
+  pairs_single zero zero (suc j) F e h = absurd (omega arith)
+  pairs_single zero (suc i) j F e h = absurd (omega arith)
+  pairs_single (suc k) zero j F e h =
+      let last : suc k ≡ j = omega arith in
+      ap (add (F 0 (suc k))) (pairs_none k (λ u v. F (suc u) v) (λ u v s. h (suc u) v (omega arith) (λ z. omega arith))) ∙ right _ ∙ ap (F 0) last
+  pairs_single (suc k) (suc i) j F e h =
+      ap (λ x. add x (over_pairs add k (λ u v. F (suc u) v))) (h 0 (suc k) (omega arith) (λ z. omega arith)) ∙ left _
+      ∙ pairs_single k i j (λ u v. F (suc u) v) (omega arith) (λ u v s w. h (suc u) v (omega arith) (λ z. w (omega arith)))
+
+  -- only the split in b and c counts
+  pub splits_one : {b c a : List ℕ} (F : List ℕ → List ℕ → A) → IsSum b c a
+      → ((u v : List ℕ) → IsSum u v a → ¬ (u ≡ b) → F u v ≡ nil) → over_splits add a F ≡ F b c
+  unfolding over_splits
+  splits_one F none h = refl
+  splits_one F (more {i = i} {j = j} {k = k} {b = b} {c = c} {a = a} e s) h =
+      pairs_single k i j (λ x y. over_splits add a (λ u v. F (x ∷ u) (y ∷ v))) e
+      (λ x y d w. splits_same_if add a (λ u v t. h (x ∷ u) (y ∷ v) (more d t) (λ z. w (heads z))) ∙ splits_all_zero a)
+      ∙ splits_one (λ u v. F (i ∷ u) (j ∷ v)) s (λ u v t w. h (i ∷ u) (j ∷ v) (more e t) (λ z. w (tails z)))
+    where
+      heads : {x y : ℕ} {u v : List ℕ} → x ∷ u ≡ y ∷ v → x ≡ y
+      heads z = cc
+
+      tails : {x y : ℕ} {u v : List ℕ} → x ∷ u ≡ y ∷ v → u ≡ v
+      tails z = cc
+
+-- ---- in a ring
 module _ {K : Ring} (L : IsRing K) where
   open K use {Carrier, zero as 𝟘, one as 𝟙, add as ◌⊕◌, mul as ◌⊗◌, neg}
   open L use {add_assoc, add_comm, zero_add, neg_add, mul_assoc, mul_comm, one_mul, mul_add}
@@ -54,9 +106,7 @@ module _ {K : Ring} (L : IsRing K) where
   infixl 60 ◌⊕◌
   infixl 70 ◌⊗◌
   pub pairs_zero : (k : ℕ) → over_pairs ◌⊕◌ k (λ i j. 𝟘) ≡ 𝟘
-  unfolding over_pairs
-  pairs_zero zero = refl
-  pairs_zero (suc k) = zero_add _ ∙ pairs_zero k
+  pairs_zero k = pairs_all_zero ◌⊕◌ 𝟘 zero_add (add_zero L) k
 
   pub pairs_add : (k : ℕ) (F G : ℕ → ℕ → Carrier) → over_pairs ◌⊕◌ k (λ i j. F i j ⊕ G i j) ≡ over_pairs ◌⊕◌ k F ⊕ over_pairs ◌⊕◌ k G
   unfolding over_pairs
@@ -90,9 +140,7 @@ module _ {K : Ring} (L : IsRing K) where
 
   -- ---- over splits
   pub splits_zero : (a : List ℕ) → over_splits ◌⊕◌ a (λ b c. 𝟘) ≡ 𝟘
-  unfolding over_splits
-  splits_zero [] = refl
-  splits_zero (k ∷ a) = pairs_same ◌⊕◌ k (λ i j. splits_zero a) ∙ pairs_zero k
+  splits_zero a = splits_all_zero ◌⊕◌ 𝟘 zero_add (add_zero L) a
 
   pub splits_add : (a : List ℕ) (F G : List ℕ → List ℕ → Carrier) → over_splits ◌⊕◌ a (λ b c. F b c ⊕ G b c) ≡ over_splits ◌⊕◌ a F ⊕ over_splits ◌⊕◌ a G
   unfolding over_splits
@@ -127,43 +175,7 @@ module _ {K : Ring} (L : IsRing K) where
       ∙ pairs_same ◌⊕◌ k (λ i n. pairs_same ◌⊕◌ n (λ j m. splits_assoc a (λ b c y. F (i ∷ b) (j ∷ c) (m ∷ y))))
       ∙ pairs_same ◌⊕◌ k (λ i n. sym (splits_pairs a n (λ b z j m. over_splits ◌⊕◌ z (λ c y. F (i ∷ b) (j ∷ c) (m ∷ y)))))
 
-  -- ---- sums in which one summand counts
-  -- all pairs but the first give 0
-  pub pairs_first : (k : ℕ) (F : ℕ → ℕ → Carrier) → ((i j : ℕ) → F (suc i) j ≡ 𝟘) → over_pairs ◌⊕◌ k F ≡ F 0 k
-  unfolding over_pairs
-  pairs_first zero F h = refl
-  pairs_first (suc k) F h = ap (λ x. F 0 (suc k) ⊕ x) (pairs_same ◌⊕◌ k h ∙ pairs_zero k) ∙ add_comm _ 𝟘 ∙ zero_add _
-
-  -- all pairs give 0
-  pairs_none : (k : ℕ) (F : ℕ → ℕ → Carrier) → ((i j : ℕ) → i + j ≡ k → F i j ≡ 𝟘) → over_pairs ◌⊕◌ k F ≡ 𝟘
-  pairs_none k F h = pairs_same_if ◌⊕◌ k h ∙ pairs_zero k
-
-  -- only the pair of i and j counts
-  pairs_single : (k i j : ℕ) (F : ℕ → ℕ → Carrier) → i + j ≡ k → ((u v : ℕ) → u + v ≡ k → ¬ (u ≡ i) → F u v ≡ 𝟘) → over_pairs ◌⊕◌ k F ≡ F i j
-  unfolding over_pairs
-  pairs_single zero zero zero F e h = refl
-  pairs_single zero zero (suc j) F e h = absurd (omega arith)
-  pairs_single zero (suc i) j F e h = absurd (omega arith)
-  pairs_single (suc k) zero j F e h =
-      let last : suc k ≡ j = omega arith in
-      ap (λ x. F 0 (suc k) ⊕ x) (pairs_none k (λ u v. F (suc u) v) (λ u v s. h (suc u) v (omega arith) (λ z. omega arith)))
-      ∙ add_comm _ 𝟘 ∙ zero_add _ ∙ ap (F 0) last
-  pairs_single (suc k) (suc i) j F e h =
-      ap (λ x. x ⊕ over_pairs ◌⊕◌ k (λ u v. F (suc u) v)) (h 0 (suc k) (omega arith) (λ z. omega arith)) ∙ zero_add _
-      ∙ pairs_single k i j (λ u v. F (suc u) v) (omega arith) (λ u v s w. h (suc u) v (omega arith) (λ z. w (omega arith)))
-
   -- only the split in b and c counts
   pub splits_single : {b c a : List ℕ} (F : List ℕ → List ℕ → Carrier) → IsSum b c a
       → ((u v : List ℕ) → IsSum u v a → ¬ (u ≡ b) → F u v ≡ 𝟘) → over_splits ◌⊕◌ a F ≡ F b c
-  unfolding over_splits
-  splits_single F none h = refl
-  splits_single F (more {i = i} {j = j} {k = k} {b = b} {c = c} {a = a} e s) h =
-      pairs_single k i j (λ x y. over_splits ◌⊕◌ a (λ u v. F (x ∷ u) (y ∷ v))) e
-      (λ x y d w. splits_same_if ◌⊕◌ a (λ u v t. h (x ∷ u) (y ∷ v) (more d t) (λ z. w (heads z))) ∙ splits_zero a)
-      ∙ splits_single (λ u v. F (i ∷ u) (j ∷ v)) s (λ u v t w. h (i ∷ u) (j ∷ v) (more e t) (λ z. w (tails z)))
-    where
-      heads : {x y : ℕ} {u v : List ℕ} → x ∷ u ≡ y ∷ v → x ≡ y
-      heads z = cc
-
-      tails : {x y : ℕ} {u v : List ℕ} → x ∷ u ≡ y ∷ v → u ≡ v
-      tails z = cc
+  splits_single F s h = splits_one ◌⊕◌ 𝟘 zero_add (add_zero L) F s h

@@ -1,5 +1,5 @@
 -- Polynomials over a ring K in n variables (Lang, Algebra, chapter II, section 3).
-use Rattle.std.specs.Prelude.{◌≡◌, ℕ, List, [], ◌∷◌, length, Option, Some, None, ◌⊎◌, T, true, false, cond}
+use Rattle.std.specs.Prelude.{◌≡◌, ℕ, List, [], ◌∷◌, length, Bool, Option, Some, None, ◌⊎◌, T, true, false, cond}
 use Rattle.std.specs.Ordering.{nat_cmp, eq_by_cmp, is_eq}
 use Rattle.std.specs.declared.cmp.Ordering.{Ordering}
 use Rattle.std.specs.declared.cmp.Ordering.TheVariants.{Less, Equal, Greater}
@@ -17,6 +17,10 @@ use Rattle.fm_algebra.specs.Series.{Series}
 -- an order of the tuples in which a map keeps its keys; it has no other meaning
 abbrev pub tuple_cmp : List ℕ → List ℕ → Ordering
 tuple_cmp = slice_cmp nat_cmp
+
+-- whether two tuples are equal
+abbrev pub tuple_eq : List ℕ → List ℕ → Bool
+tuple_eq a b = eq_by_cmp tuple_cmp a b
 
 -- a polynomial: a finite map from tuples of n exponents to coefficients that are not 0
 pub record Poly (K : Ring) (n : ℕ) : Type 0 where

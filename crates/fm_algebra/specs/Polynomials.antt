@@ -1,11 +1,11 @@
 -- The ring GF(p)[x1 .. xn], in the words that contracts cite: a coefficient is a number below p, and a monomial the tuple of its n exponents.
-use Rattle.std.specs.Prelude.{◌≡◌, ℕ, ◌^◌, ◌<◌, List, [], ◌∷◌, length}
+use Rattle.std.specs.Prelude.{◌+◌, if◌then◌else◌, ◌≡◌, ℕ, ◌^◌, ◌<◌, List, [], ◌∷◌, length}
 use Rattle.std.specs.declared.cmp.Ordering.{Ordering}
 use Rattle.fm_gfp.specs.Primes.{prime_value}
 use Rattle.fm_gfp.specs.declared.prime.Prime.{Prime}
 use Rattle.fm_algebra.specs.Ring.{Ring}
 use Rattle.fm_algebra.specs.Gf.{gf, gf_is_zero, residue, prime_positive}
-use Rattle.fm_algebra.specs.Poly.{Poly, coeff}
+use Rattle.fm_algebra.specs.Poly.{Poly, coeff, tuple_eq}
 use Rattle.fm_algebra.specs.PolyRing.{poly, multiple}
 use Rattle.fm_algebra.specs.Power.{power}
 use Rattle.fm_algebra.specs.Monomial.{monomial}
@@ -60,6 +60,11 @@ module _ (p : Prime) (n : ℕ) where
   polynomial_of [] = polynomial_zero
   polynomial_of (t ∷ ts) = polynomial_sum (polynomial_term t.1 t.0) (polynomial_of ts)
 
+  -- the sum of a list of polynomials
+  unfoldable pub polynomial_total : List (Polynomial p n) → Polynomial p n
+  polynomial_total [] = polynomial_zero
+  polynomial_total (f ∷ fs) = polynomial_sum f (polynomial_total fs)
+
   -- the Frobenius twist f^[q], for q = p ^ e: f with every exponent multiplied by q
   unfoldable pub frobenius_twist : ℕ → Polynomial p n → Polynomial p n
   frobenius_twist e f = twist (gf p) (gf_is_zero p) n (prime_value p ^ e) f
@@ -76,3 +81,13 @@ module _ (p : Prime) (n : ℕ) where
   abbrev pub AreListedTerms : List (List ℕ × ℕ) → Type 0
   AreListedTerms [] = Unit {0}
   AreListedTerms (t ∷ ts) = (length t.0 ≡ n) × (0 < t.1) × (t.1 < prime_value p) × AreListedTerms ts
+
+-- every tuple of a list of terms has n exponents
+abbrev pub AllFit : ℕ → List (List ℕ × ℕ) → Type 0
+AllFit n [] = Unit {0}
+AllFit n (t ∷ ts) = (length t.0 ≡ n) × AllFit n ts
+
+-- the sum of the coefficients that stand at the exponents a in a list of terms
+abbrev pub listed_coefficient : List (List ℕ × ℕ) → List ℕ → ℕ
+listed_coefficient [] a = 0
+listed_coefficient (t ∷ ts) a = (if tuple_eq a t.0 then t.1 else 0) + listed_coefficient ts a

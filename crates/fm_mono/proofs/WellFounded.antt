@@ -1,5 +1,5 @@
 -- The three monomial orders are well founded on the tuples of each length: each is the lexicographic order of a key
-use Rattle.std.proofs.Common.{ℕ, zero, suc, ◌+◌, ◌-◌, ◌<◌, ◌≤◌, ◌≡◌, ◌⊎◌, inl, inr, List, [], ◌∷◌, length, map, reverse, sum, refl, sym, ap, ap₂, ◌∙◌, subst, arith, Bool, IsTrue}
+use Rattle.std.proofs.Common.{ℕ, zero, suc, ◌-◌, ◌<◌, ◌≤◌, ◌≡◌, ◌⊎◌, inl, inr, List, [], ◌∷◌, length, map, reverse, sum, refl, sym, ap, ap₂, ◌∙◌, subst, arith, Bool, IsTrue}
 use Rattle.std.specs.Ordering.{nat_cmp, flip_args, ordering_then, MatchOrdering}
 use Rattle.std.specs.Cmp.{ranks}
 use Rattle.std.specs.Cmp.Lexicographic.{slice_cmp}
@@ -10,7 +10,7 @@ use Rattle.std.proofs.lemmas.List.{length-reverse, length-map}
 use Rattle.fm_tuple.proofs.TupleEntries.{sum_cons, sum_reverse}
 use Rattle.fm_mono.specs.declared.order.Order.{Order}
 use Rattle.fm_mono.specs.declared.order.Order.TheVariants.{Grevlex, Deglex, Lex}
-use Rattle.fm_mono.specs.Orders.{monomial_cmp, degree_cmp, first_cmp, last_cmp}
+use Rattle.fm_mono.specs.Orders.{monomial_cmp, first_cmp, last_cmp}
 use Rattle.fm_mono.specs.Accessible.{IsAccessible, by_smaller}
 use Rattle.fm_mono.proofs.OrderLaws.{nat_cmp_alike}
 
@@ -27,8 +27,8 @@ one_smaller n P i a lower same [] l e = absurd (omega arith)
 one_smaller n P i a lower same (j ∷ b) l e =
     let m : length b ≡ n = omega arith in
     elim (less_cases (nat_cmp j i) i j (first_cmp b a) (ranks j i) e) [
-      inl h ↦ lower j h b m
-    | inr h ↦ subst (λ k. P (k ∷ b)) (sym h.0) (same b m h.1)
+      | inl h ↦ lower j h b m
+      | inr h ↦ subst (λ k. P (k ∷ b)) (sym h.0) (same b m h.1)
     ]
 
 -- what holds of a tuple of n numbers when it holds of all smaller ones holds of all
@@ -110,7 +110,7 @@ order_induction o n P step a l =
         → (b : List ℕ) → length b ≡ n → key o b ≡ k → P b
     at_key k l smaller b m is =
         step b m (λ c g below. smaller (key o c) (length_key o c n g)
-            (ap (λ x. first_cmp (key o c) x) (sym is) ∙ key_cmp o c b ∙ below) c g refl)
+        (ap (λ x. first_cmp (key o c) x) (sym is) ∙ key_cmp o c b ∙ below) c g refl)
 
 -- each tuple is accessible
 pub every_tuple_accessible : (o : Order) (a : List ℕ) → IsAccessible o a

@@ -1,2 +1,4 @@
 pub mod Orders
 pub mod Accessible
+pub mod Bounded
+pub mod Packed

@@ -1,6 +1,12 @@
 // Monomials and the three monomial orders.
 #![tactic(auto)]
 
+pub(crate) mod entries;
+pub mod exponent;
+pub mod laws;
+pub mod mono;
 pub mod order;
 
+pub use exponent::{EXPONENT_BOUND, Exponent};
+pub use mono::Mono;
 pub use order::Order;

@@ -1,8 +1,11 @@
 -- Exponent tuples by their entries, their total degrees, and read from the last variable on
-use Rattle.std.proofs.Common.{ℕ, zero, suc, ◌+◌, ◌*◌, ◌≤◌, ◌<◌, ◌≡◌, List, [], ◌∷◌, length, replicate, sum, map, reverse, refl, sym, ap, ap₂, ◌∙◌, arith, get_or}
+use Rattle.std.proofs.Common.{ℕ, zero, suc, ◌+◌, ◌*◌, ◌≤◌, ◌<◌, ◌≡◌, List, [], ◌∷◌, length, replicate, sum, map, reverse, refl, sym, ap, ap₂, ◌∙◌, arith, get_or, subst, ◌-◌, ◌++◌}
 use mathlib.Core.List.{reverse_aux}
+use Rattle.std.proofs.lemmas.List.{length-map}
+use Rattle.std.proofs.lemmas.Grind.{same_number_lists}
 use Rattle.std.proofs.lemmas.List.Sums.{sum_by-cons}
-use Rattle.fm_tuple.specs.Tuple.{entrywise, tuple_sum, tuple_multiple, TupleDivides}
+use Rattle.fm_tuple.specs.Tuple.{entrywise, tuple_sum, tuple_difference, tuple_multiple, TupleDivides}
+use Rattle.fm_tuple.proofs.Tuples.{tuple_sum_difference}
 
 -- ---- total degrees
 pub sum_cons : (i : ℕ) (a : List ℕ) → sum (i ∷ a) ≡ i + sum a
@@ -96,3 +99,49 @@ sum_reverse_aux (i ∷ a) x =
 
 pub sum_reverse : (a : List ℕ) → sum (reverse a) ≡ sum a
 sum_reverse a = let whole : sum (reverse a) ≡ sum a + sum [] = sum_reverse_aux a [] in omega arith
+
+-- a tuple with these entries is f of the two tuples
+pub entrywise_by_place : (f : ℕ → ℕ → ℕ) (a b out : List ℕ) → length b ≡ length a → length out ≡ length a
+    → ((k : ℕ) → k < length a → get_or out k 0 ≡ f (get_or a k 0) (get_or b k 0)) → out ≡ entrywise f a b
+entrywise_by_place f a b out l m same =
+    same_number_lists out (entrywise f a b) (m ∙ sym (length_entrywise f a b (sym l)))
+    (λ k below. same k (subst (λ n. k < n) m below) ∙ sym (get_or_entrywise f a b k (sym l) (subst (λ n. k < n) m below)))
+
+-- a tuple with these entries is f of the tuple
+pub map_by_place : (f : ℕ → ℕ) (a out : List ℕ) → length out ≡ length a
+    → ((k : ℕ) → k < length a → get_or out k 0 ≡ f (get_or a k 0)) → out ≡ map f a
+map_by_place f a out m same =
+    same_number_lists out (map f a) (m ∙ sym (length-map a f))
+    (λ k below. same k (subst (λ n. k < n) m below) ∙ sym (get_or_map f a k (subst (λ n. k < n) m below)))
+
+-- divisibility place by place
+pub divides_by_place : (a b : List ℕ) → length b ≡ length a → ((k : ℕ) → k < length a → get_or a k 0 ≤ get_or b k 0) → TupleDivides a b
+divides_by_place [] b l places = tt
+divides_by_place (i ∷ a) [] l places = absurd (omega arith)
+divides_by_place (i ∷ a) (j ∷ b) l places = (places 0 (omega arith), divides_by_place a b (omega arith) (λ k below. places (suc k) (omega arith)))
+
+pub get_or_divides : (a b : List ℕ) → TupleDivides a b → (k : ℕ) → get_or a k 0 ≤ get_or b k 0
+get_or_divides [] b d k = omega arith
+get_or_divides (i ∷ a) [] d k = elim d [ ]
+get_or_divides (i ∷ a) (j ∷ b) d zero = d.0
+get_or_divides (i ∷ a) (j ∷ b) d (suc k) = get_or_divides a b d.1 k
+
+-- the total degree of a quotient
+pub sum_tuple_difference : (a b : List ℕ) → length b ≡ length a → TupleDivides b a → sum (tuple_difference a b) ≡ sum a - sum b
+sum_tuple_difference a b l divides =
+    let whole : tuple_sum b (tuple_difference a b) ≡ a = tuple_sum_difference b a l divides in
+    let same : length b ≡ length (tuple_difference a b) = l ∙ sym (length_entrywise ◌-◌ a b (sym l)) in
+    let parts : sum (tuple_sum b (tuple_difference a b)) ≡ sum b + sum (tuple_difference a b) = sum_tuple_sum b (tuple_difference a b) same in
+    let total : sum (tuple_sum b (tuple_difference a b)) ≡ sum a = ap sum whole in
+    omega arith
+
+-- ---- tuples with zeros behind them
+pub entrywise_append : (f : ℕ → ℕ → ℕ) (a b x y : List ℕ) → length b ≡ length a → entrywise f (a ++ x) (b ++ y) ≡ entrywise f a b ++ entrywise f x y
+entrywise_append f [] [] x y l = refl
+entrywise_append f [] (j ∷ b) x y l = absurd (omega arith)
+entrywise_append f (i ∷ a) [] x y l = absurd (omega arith)
+entrywise_append f (i ∷ a) (j ∷ b) x y l = ap (λ z. f i j ∷ z) (entrywise_append f a b x y (omega arith))
+
+pub entrywise_zeros : (f : ℕ → ℕ → ℕ) → f 0 0 ≡ 0 → (n : ℕ) → entrywise f (replicate n 0) (replicate n 0) ≡ replicate n 0
+entrywise_zeros f none zero = refl
+entrywise_zeros f none (suc n) = ap₂ (λ x y. x ∷ y) none (entrywise_zeros f none n)

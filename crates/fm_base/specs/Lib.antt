@@ -1,0 +1,5 @@
+pub mod Causes
+pub mod Parts
+pub mod Statuses
+pub mod Feed
+pub mod Store

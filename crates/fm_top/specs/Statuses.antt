@@ -1,0 +1,39 @@
+-- Kinds of statuses.
+use Rattle.fm_base.specs.declared.status.Status.{Status}
+use Rattle.fm_base.specs.declared.status.Status.TheVariants.{Done, Refused, Usage, Unanswered, Problem, ReadFault, WriteFault, Memory, TooLong}
+
+-- no fault of the source or the sink, and no want of memory
+abbrev pub IsPlain : Status → Type 0
+IsPlain ReadFault = ⊥
+IsPlain WriteFault = ⊥
+IsPlain Memory = ⊥
+IsPlain Done = Unit {0}
+IsPlain Refused = Unit {0}
+IsPlain Usage = Unit {0}
+IsPlain Unanswered = Unit {0}
+IsPlain Problem = Unit {0}
+IsPlain TooLong = Unit {0}
+
+-- nothing is written
+abbrev pub IsQuiet : Status → Type 0
+IsQuiet ReadFault = Unit {0}
+IsQuiet Memory = Unit {0}
+IsQuiet TooLong = Unit {0}
+IsQuiet Done = ⊥
+IsQuiet Refused = ⊥
+IsQuiet Usage = ⊥
+IsQuiet Unanswered = ⊥
+IsQuiet Problem = ⊥
+IsQuiet WriteFault = ⊥
+
+-- the whole of an answer is written
+abbrev pub IsWritten : Status → Type 0
+IsWritten Done = Unit {0}
+IsWritten Refused = Unit {0}
+IsWritten Usage = Unit {0}
+IsWritten Unanswered = Unit {0}
+IsWritten Problem = Unit {0}
+IsWritten ReadFault = ⊥
+IsWritten WriteFault = ⊥
+IsWritten Memory = ⊥
+IsWritten TooLong = ⊥

@@ -1,0 +1,9 @@
+// The top call: words, a source and a sink in, a status out. Everything that the program promises stands on its contract.
+#![tactic(auto)]
+
+mod deciding;
+mod reply;
+mod running;
+mod words;
+
+pub use running::run;
