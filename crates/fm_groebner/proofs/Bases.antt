@@ -5,7 +5,7 @@ use Rattle.fm_gfp.specs.declared.prime.Prime.{Prime}
 use Rattle.fm_tuple.specs.Tuple.{tuple_difference, TupleDivides}
 use Rattle.fm_mono.specs.declared.order.Order.{Order}
 use Rattle.fm_algebra.specs.Gf.{gf, gf_is_zero}
-use Rattle.fm_algebra.specs.Matrix.{InListImage}
+use Rattle.fm_algebra.specs.PolynomialMatrices.{InImage}
 use Rattle.fm_algebra.specs.Polynomials.{Polynomial, polynomials}
 use Rattle.fm_algebra.proofs.Gf.{gf_laws, gf_field}
 use Rattle.fm_algebra.proofs.Tables.{length-listed, length-apply}
@@ -42,13 +42,16 @@ module _ (p : Prime) (n m : ℕ) (o : Order) where
   unfolding vector_of
   length_vector ts = length-listed m _
 
-  pub image_length : (gens : List (List (Polynomial p n))) (v : List (Polynomial p n)) → InListImage (polynomials p n) (generators p n m gens) v → length v ≡ m
+  pub image_length : (gens : List (List (Polynomial p n))) (v : List (Polynomial p n)) → InImage p n (generators p n m gens) v → length v ≡ m
+  unfolding InImage
   image_length gens v i = ap length (sym i.2) ∙ length-apply (polynomials p n) (generators p n m gens) i.0
 
-  pub span_of : (gens : List (List (Polynomial p n))) (v : List (Polynomial p n)) → InListImage (polynomials p n) (generators p n m gens) v → Span X (Generated gens) (W v)
+  pub span_of : (gens : List (List (Polynomial p n))) (v : List (Polynomial p n)) → InImage p n (generators p n m gens) v → Span X (Generated gens) (W v)
+  unfolding InImage
   span_of gens v i = span_of_image (ordered o n) (gf p) (gf_laws p) (gf_is_zero p) m gens v i
 
-  pub image_of : (gens : List (List (Polynomial p n))) (v : List (Polynomial p n)) → length v ≡ m → Span X (Generated gens) (W v) → InListImage (polynomials p n) (generators p n m gens) v
+  pub image_of : (gens : List (List (Polynomial p n))) (v : List (Polynomial p n)) → length v ≡ m → Span X (Generated gens) (W v) → InImage p n (generators p n m gens) v
+  unfolding InImage
   image_of gens v l s = image_of_span (ordered o n) (gf p) (gf_laws p) (gf_is_zero p) m gens v l s
 
   -- ---- from functions to vectors of polynomials
@@ -80,11 +83,11 @@ module _ (p : Prime) (n m : ℕ) (o : Order) where
       basis_heads ms i (record { exponents = a; fits = h.2 }) h.0 h.1 (basis.heads (W v) (m - i, record { exponents = a; fits = h.2 }) (span_of gens v im) h.3);
   }
     where
-      inside : (g : List (Polynomial p n)) → (x : List Term) × In ms x × (vector_of p n m x ≡ g) → InListImage (polynomials p n) (generators p n m gens) g
+      inside : (g : List (Polynomial p n)) → (x : List Term) × In ms x × (vector_of p n m x ≡ g) → InImage p n (generators p n m gens) g
       inside g x =
           let k = number_of_in x.1 in
           let w = well k.0 x.0 k.1 in
-          subst (InListImage (polynomials p n) (generators p n m gens)) x.2
+          subst (InImage p n (generators p n m gens)) x.2
             (image_of gens (vector_of p n m x.0) (length_vector x.0) (basis.members (V p n m o x.0) (head_place p n m o x.0 w.0) (k.0, member_at w.0 w.1 k.1)))
 
   -- ---- from vectors of polynomials to functions
@@ -125,12 +128,13 @@ module _ (p : Prime) (n m : ℕ) (o : Order) where
 
     -- a basis of vectors of polynomials is one of functions
     pub groebner_of_basis : IsGroebner X (Divided members) (Generated gens)
+    unfolding InImage
     groebner_of_basis = record {
       members = λ g h d. lin_comb d.factor (span_of gens d.vector (basis.inside d.vector (contains_of_in d.is_member))) (lin_nil X) (λ b. scale_only (gf_laws p) d.factor (W d.vector b) (g b) (d.is b));
       heads = λ u b s hd. heads u b hd (vector_of_span (ordered o n) (gf p) (gf_laws p) (gf_is_zero p) m gens s);
     }
       where
-        heads : (u : Vect X) (b : ℕ × Monomial n) → setting.IsHead X u b → (v : List (Polynomial p n)) × InListImage (polynomials p n) (generators p n m gens) v × ((c : ℕ × Monomial n) → u c ≡ W v c)
+        heads : (u : Vect X) (b : ℕ × Monomial n) → setting.IsHead X u b → (v : List (Polynomial p n)) × InImage p n (generators p n m gens) v × ((c : ℕ × Monomial n) → u c ≡ W v c)
             → Divides X (Divided members) b
         heads u b hd v =
             let hv = head_eq X (λ c. sym (v.2 c)) hd in

@@ -5,7 +5,7 @@ use Rattle.fm_gfp.specs.declared.prime.Prime.{Prime}
 use Rattle.fm_tuple.specs.Tuple.{tuple_difference, TupleDivides}
 use Rattle.fm_mono.specs.declared.order.Order.{Order}
 use Rattle.fm_algebra.specs.Gf.{gf, gf_is_zero}
-use Rattle.fm_algebra.specs.Matrix.{InListImage}
+use Rattle.fm_algebra.specs.PolynomialMatrices.{InImage}
 use Rattle.fm_algebra.specs.Polynomials.{Polynomial, polynomials}
 use Rattle.fm_algebra.proofs.Gf.{gf_laws}
 use Rattle.fm_groebner.specs.Terms.{Term, TermDivides, IsFalling, vector_of, vectors_of}
@@ -91,7 +91,7 @@ module _ (p : Prime) (n m : ℕ) (o : Order) where
 
     -- membership: the rest of a reduction by a Gröbner basis
     pub membership : (gens : List (List (Polynomial p n))) → IsGroebnerBasis p n o m (vectors_of p n m ms) gens → {by : List ℕ} {v r : List Term} → ReducesBy p n m o ms by v r → IsFalling p n m o v → IsIrreducible ms r
-        → InListImage (polynomials p n) (generators p n m gens) (vector_of p n m v) ↔ (r ≡ [])
+        → InImage p n (generators p n m gens) (vector_of p n m v) ↔ (r ≡ [])
     membership gens basis {by} {v} {r} red f i =
         let fr = reduces_falling p n m o red f in
         let iff = member_iff X (groebner_of_basis p n m o (vectors_of p n m ms) gens basis) (reduces_divided red f) (irreducible_end r fr i) in

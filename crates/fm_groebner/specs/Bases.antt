@@ -4,8 +4,9 @@ use Rattle.std.specs.declared.cmp.Ordering.TheVariants.{Greater}
 use Rattle.fm_gfp.specs.declared.prime.Prime.{Prime}
 use Rattle.fm_tuple.specs.Tuple.{TupleDivides}
 use Rattle.fm_mono.specs.declared.order.Order.{Order}
+use Rattle.fm_algebra.specs.Matrix.{component}
 use Rattle.fm_algebra.specs.Polynomials.{Polynomial, polynomials, coefficient, polynomial_zero}
-use Rattle.fm_algebra.specs.Matrix.{Matrix, component, InListImage}
+use Rattle.fm_algebra.specs.PolynomialMatrices.{PolynomialMatrix, InImage}
 use Rattle.fm_groebner.specs.Terms.{place_cmp}
 
 module _ (p : Prime) (n : ℕ) where
@@ -20,7 +21,7 @@ module _ (p : Prime) (n : ℕ) where
     pub greatest : (j : ℕ) (b : List ℕ) → ¬ (coefficient p n (vector_component v j) b ≡ 0) → ¬ (place_cmp o j b i a ≡ Greater)
 
   -- the matrix of m rows whose columns generate a submodule of the free module of rank m
-  abbrev pub generators : ℕ → List (List (Polynomial p n)) → Matrix (polynomials p n)
+  abbrev pub generators : ℕ → List (List (Polynomial p n)) → PolynomialMatrix p n
   generators m gens = record { rows = m; columns = gens }
 
   -- some member's head divides x^a * e_i
@@ -33,5 +34,5 @@ module _ (p : Prime) (n : ℕ) where
 
   -- the members are a Gröbner basis of the submodule that the generators span: they lie in it, and the head of each of its nonzero vectors is divisible by the head of a member
   pub record IsGroebnerBasis (o : Order) (m : ℕ) (members gens : List (List (Polynomial p n))) : Type 0 where
-    pub inside : (g : List (Polynomial p n)) → Contains members g → InListImage (polynomials p n) (generators m gens) g
-    pub heads : (v : List (Polynomial p n)) (i : ℕ) (a : List ℕ) → InListImage (polynomials p n) (generators m gens) v → IsHead o v i a → HeadDivides o members i a
+    pub inside : (g : List (Polynomial p n)) → Contains members g → InImage p n (generators m gens) g
+    pub heads : (v : List (Polynomial p n)) (i : ℕ) (a : List ℕ) → InImage p n (generators m gens) v → IsHead o v i a → HeadDivides o members i a
