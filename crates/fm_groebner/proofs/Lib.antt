@@ -16,3 +16,4 @@ pub mod Logs
 pub mod Heads
 pub mod Bases
 pub mod Membership
+pub mod Twists
