@@ -17,3 +17,4 @@ pub mod Heads
 pub mod Bases
 pub mod Membership
 pub mod Twists
+pub mod GraphMatrices
