@@ -45,6 +45,10 @@ module _ (S : Setting) where
         forth (inl z) s = z
         forth (inr t) s = absurd (t.2 (basis.heads r t.0 (rest_of_span basis.members red s) t.1))
 
+  -- the members that are zero in a block of places
+  abbrev pub LowMembers : Family S → (Place → Type 0) → Vect S → Type 0
+  LowMembers G Upper g = (h : Place) × G g h × ((b : Place) → Upper b → g b ≡ 𝟘)
+
   -- ---- standard representations with respect to a basis
   module _ {G : Family S} {A : Vect S → Type 0} (monic : IsMonic S G) (basis : IsGroebner S G A) (finite : (g : Vect S) → A g → IsFinite S g) where
     cut_head : (v : Vect S) (a : Place) → Span S A v → IsHead S v a → Divides S G a → ((b : Place) → Less b a → (u : Vect S) → Span S A u → IsHead S u b → Representation S G (λ c. ¬ (Less b c)) u)
@@ -86,11 +90,7 @@ module _ (S : Setting) where
 
     -- where the places of a block are above all others: the vectors of the span that are zero there are spanned by the members that are
     module _ (Upper : Place → Type 0) (dec : (b : Place) → Dec (Upper b)) (low_less : (a b : Place) → ¬ (Upper a) → Upper b → Less a b) (upper_of : (m : Monomial) (x : Place) → Upper x → Upper (m • x)) where
-      pub Lowers : Vect S → Type 0
-      Lowers g = (h : Place) × G g h × ((b : Place) → Upper b → g b ≡ 𝟘)
-
-      lower_multiple : (a : Place) → ¬ (Upper a) → (u : Vect S) → Multiple S G (λ c. ¬ (Less a c)) u → Span S Lowers u
-      unfolding Lowers
+      lower_multiple : (a : Place) → ¬ (Upper a) → (u : Vect S) → Multiple S G (λ c. ¬ (Less a c)) u → Span S (LowMembers G Upper) u
       lower_multiple a n u t = lin_gen (record { by = t.by; member = t.member; in_A = (t.at, t.in_G, zero_above); is = t.is })
         where
           low_head : ¬ (Upper t.at)
@@ -99,7 +99,7 @@ module _ (S : Setting) where
           zero_above : (b : Place) → Upper b → t.member b ≡ 𝟘
           zero_above b w = (monic t.member t.at t.in_G).1 b (low_less t.at b low_head w)
 
-      pub eliminate : (v : Vect S) → Span S A v → ((b : Place) → Upper b → v b ≡ 𝟘) → Span S Lowers v
+      pub eliminate : (v : Vect S) → Span S A v → ((b : Place) → Upper b → v b ≡ 𝟘) → Span S (LowMembers G Upper) v
       eliminate v s low = elim (head_of_finite S (finite_of_span S finite s)) [
         | inl z ↦ lin_zero z
         | inr t ↦ lin_bind S (lower_multiple t.0 (λ w. t.1.0 (low t.0 w))) (standard_rep t.0 v s t.1)

@@ -68,7 +68,7 @@ module _ (R : Ring) (L : IsRing R) where
     abbrev pub graph_generated : Matrix R
     graph_generated = record { rows = A.rows + cols R A; columns = graph_matrix.columns }
 
-    graph_cols : cols R graph_matrix ≡ cols R A
+    pub graph_cols : cols R graph_matrix ≡ cols R A
     unfolding stacked
     graph_cols = cols_table R (A.rows + (unit_matrix R (cols R A)).rows) (cols R A) _
 

@@ -18,3 +18,4 @@ pub mod Bases
 pub mod Membership
 pub mod Twists
 pub mod GraphMatrices
+pub mod Graphs

@@ -65,7 +65,7 @@ module _ (p : Prime) (n m : ℕ) (o : Order) where
           (reduces_divided red f')
 
     -- a head that a divided member's head divides is divisible by the head of a member
-    divides_listed : (s : Term) (rs : List Term) (f : IsFalling p n m o (s ∷ rs)) → IsIrreducible ms (s ∷ rs) → ¬ (Divides X (Divided p n m o (vectors_of p n m ms)) (head_place p n m o (s ∷ rs) f))
+    pub divides_listed : (s : Term) (rs : List Term) (f : IsFalling p n m o (s ∷ rs)) → IsIrreducible ms (s ∷ rs) → ¬ (Divides X (Divided p n m o (vectors_of p n m ms)) (head_place p n m o (s ∷ rs) f))
     divides_listed s rs f irreducible d = at_member (in_of_map (vector_of p n m) ms d.in_G.is_member)
       where
         at_list : (x : List Term) → Contains ms x → IsFalling p n m o x → setting.IsHead X (V p n m o x) d.at → ⊥

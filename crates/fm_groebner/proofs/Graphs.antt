@@ -1,0 +1,198 @@
+-- Kernels and images from a Gröbner basis of the graph of a matrix.
+use Rattle.std.proofs.Common.{◌≡◌, ◌⊎◌, ◌↔◌, inl, inr, ℕ, zero, suc, ◌+◌, ◌-◌, ◌<◌, ◌≤◌, List, [], ◌∷◌, ◌++◌, map, length, replicate, drop, Contains, refl, sym, ap, ap₂, ◌∙◌, subst, arith}
+use Rattle.std.proofs.lemmas.List.{length-append, length-map, length-replicate, length-drop}
+use native.Mathlib.Decide.{dec_lt}
+use Rattle.fm_gfp.specs.declared.prime.Prime.{Prime}
+use Rattle.fm_mono.specs.declared.order.Order.{Order}
+use Rattle.fm_algebra.specs.Ring.{Ring, IsRing}
+use Rattle.fm_algebra.specs.Gf.{gf, gf_is_zero}
+use Rattle.fm_algebra.specs.Poly.{coeff}
+use Rattle.fm_algebra.specs.Matrix.{cols, component, apply}
+use Rattle.fm_algebra.specs.Polynomials.{Polynomial, polynomials, polynomial_zero, polynomial_negative}
+use Rattle.fm_algebra.specs.PolynomialMatrices.{PolynomialMatrix, InImage, InKernel, vector_product, matrix_above, matrix_unit}
+use Rattle.fm_algebra.proofs.Gf.{gf_laws}
+use Rattle.fm_algebra.proofs.Algebra.{mul_zero, neg_unique}
+use Rattle.fm_algebra.proofs.Poly.{same_at_tuples}
+use Rattle.fm_algebra.proofs.PolyRing.{coeff_zero, coeff_add}
+use Rattle.fm_algebra.proofs.Tables.{length-apply}
+use Rattle.fm_algebra.proofs.Concrete.{polynomials_laws}
+use Rattle.fm_groebner.specs.Terms.{Term, IsFalling, vector_of, vectors_of}
+use Rattle.fm_groebner.specs.Bases.{generators, IsGroebnerBasis}
+use Rattle.fm_groebner.specs.Logs.{ReducesBy, IsIrreducible}
+use Rattle.fm_groebner.specs.Graphs.{graph, IsGraphBasis, zero_vector, vector_negative, AreLowerBlocks}
+use Rattle.fm_groebner.proofs.Setting as setting
+use Rattle.fm_groebner.proofs.Setting.{Vect, In, in_map, lin_comb, Span, Divides, IsFinite}
+use Rattle.fm_groebner.proofs.Algebra.{scale_only}
+use Rattle.fm_groebner.proofs.Span.{lin_nil, lin_eq, span_member, span_bind, finite_eq}
+use Rattle.fm_groebner.proofs.Basis.{LowMembers, eliminate, reduces_span}
+use Rattle.fm_groebner.proofs.Monomials.{Monomial}
+use Rattle.fm_groebner.proofs.Ordered.{ordered}
+use Rattle.fm_groebner.proofs.Values.{value_is, value_finite, component_from, component_at}
+use Rattle.fm_groebner.proofs.Images.{Values, vector_of_span}
+use Rattle.fm_groebner.proofs.Numbers.{in_of_contains, contains_of_in, in_of_map}
+use Rattle.fm_groebner.proofs.TermValues.{S, val, val_outside, val_nil, head_of_terms}
+use Rattle.fm_groebner.proofs.MonicLists.{T, V, head_place, reduces_falling}
+use Rattle.fm_groebner.proofs.Bases.{Generated, Divided, divided_monic, groebner_of_basis, span_of, image_of, image_length, length_vector}
+use Rattle.fm_groebner.proofs.Membership.{reduces_divided, divides_listed}
+use Rattle.fm_groebner.proofs.GraphMatrices.{append_injective, graph_cols, zeros, component_left, component_right, component_zeros, same_components, graph_generated, graph_apply, lowered, lowered_apply, below_zeros}
+
+module _ (p : Prime) (n : ℕ) (o : Order) where
+  abbrev P : Ring
+  P = polynomials p n
+
+  PL : IsRing P
+  PL = polynomials_laws p n
+
+  -- ---- vectors by their functions
+  -- the component i is zero where its coefficients are
+  component_zero : (l : ℕ) (v : List (Polynomial p n)) (i : ℕ) → i < l → ((a : Monomial n) → val p n l o v (l - suc i, a) ≡ (gf p).zero) → component P v i ≡ P.zero
+  component_zero l v i h z = sym (component_from (ordered o n) (gf p) (gf_laws p) (gf_is_zero p) l i v h)
+      ∙ same_at_tuples (gf p) (gf_is_zero p) n (component_at (ordered o n) (gf p) (gf_laws p) (gf_is_zero p) l v (l - suc i)) P.zero
+          (λ a f. sym (value_is (ordered o n) (gf p) (gf_laws p) (gf_is_zero p) l v (l - suc i, record { exponents = a; fits = f })) ∙ z (record { exponents = a; fits = f }) ∙ sym (ap (λ h. h a) (coeff_zero (gf p) (gf_laws p) (gf_is_zero p) n)))
+
+  val_component : (l : ℕ) (v : List (Polynomial p n)) (i : ℕ) (a : Monomial n) → i < l → val p n l o v (l - suc i, a) ≡ coeff (component P v i) a.exponents
+  val_component l v i a h = value_is (ordered o n) (gf p) (gf_laws p) (gf_is_zero p) l v (l - suc i, a) ∙ ap (λ f. coeff f a.exponents) (component_from (ordered o n) (gf p) (gf_laws p) (gf_is_zero p) l i v h)
+
+  -- where a function is the sum of two, so are the components
+  component_sum : (l : ℕ) (u v w : List (Polynomial p n)) → ((b : ℕ × Monomial n) → val p n l o u b ≡ (gf p).add (val p n l o v b) (val p n l o w b)) → (i : ℕ) → i < l → component P u i ≡ P.add (component P v i) (component P w i)
+  component_sum l u v w e i h = same_at_tuples (gf p) (gf_is_zero p) n (component P u i) (P.add (component P v i) (component P w i)) (λ a f.
+      let at : Monomial n = record { exponents = a; fits = f } in
+      sym (val_component l u i at h) ∙ e (l - suc i, at) ∙ ap₂ (gf p).add (val_component l v i at h) (val_component l w i at h) ∙ sym (ap (λ g. g a) (coeff_add (gf p) (gf_laws p) (gf_is_zero p) n (component P v i) (component P w i))))
+
+  module _ (A : PolynomialMatrix p n) where
+    abbrev m : ℕ
+    m = A.rows
+
+    abbrev c : ℕ
+    c = length A.columns
+
+    -- the places of the upper block
+    abbrev Upper : ℕ × Monomial n → Type 0
+    Upper b = c ≤ b.0
+
+    upper_dec : (b : ℕ × Monomial n) → Dec (c ≤ b.0)
+    upper_dec b = elim (dec_lt b.0 c) [ yes l ↦ no (λ h. absurd (omega (arith, l, h))) | no nl ↦ yes (omega (arith, nl)) ]
+
+    lower_level : (a b : ℕ × Monomial n) → ¬ (c ≤ a.0) → c ≤ b.0 → a.0 < b.0
+    lower_level a b na ub = omega (arith, na, ub)
+
+    -- a vector below zeros is zero in the upper block
+    upper_zero : (w : List (Polynomial p n)) → (b : ℕ × Monomial n) → Upper b → val p n (m + c) o (zero_vector p n m ++ w) b ≡ (gf p).zero
+    unfolding polynomial_zero
+    upper_zero w b up = elim (dec_lt b.0 (m + c)) [
+      | no nb ↦ val_outside p n (m + c) o (zero_vector p n m ++ w) b nb
+      | yes l ↦
+          let i : (m + c) - suc b.0 < m = omega (arith, up, l) in
+          let inside : (m + c) - suc b.0 < m + c = omega arith in
+          let level : (m + c) - suc ((m + c) - suc b.0) ≡ b.0 = omega arith in
+          ap (λ k. val p n (m + c) o (zero_vector p n m ++ w) (k, b.1)) (sym level)
+        ∙ val_component (m + c) (zero_vector p n m ++ w) ((m + c) - suc b.0) b.1 inside
+        ∙ ap (λ f. coeff f b.1.exponents) (component_left P PL (zeros P PL m) w ((m + c) - suc b.0) (subst (λ x. (m + c) - suc b.0 < x) (sym (length-replicate m P.zero)) i) ∙ component_zeros P PL m ((m + c) - suc b.0) i)
+        ∙ ap (λ h. h b.1.exponents) (coeff_zero (gf p) (gf_laws p) (gf_is_zero p) n)
+    ]
+
+    -- a vector that is zero in the upper block is below zeros
+    below_of_upper : (v : List (Polynomial p n)) → length v ≡ m + c → ((b : ℕ × Monomial n) → Upper b → val p n (m + c) o v b ≡ (gf p).zero) → v ≡ zero_vector p n m ++ drop m v
+    unfolding polynomial_zero
+    below_of_upper v l z = below_zeros P PL m c v l (λ i h. component_zero (m + c) v i (omega arith) (λ a. z ((m + c) - suc i, a) (omega arith)))
+
+    -- ---- the image of the graph
+    graph_to : (v : List (Polynomial p n)) → InImage p n (generators p n (m + c) (graph p n A).columns) v → (w : List (Polynomial p n)) × (length w ≡ c) × (v ≡ apply P A w ++ w)
+    unfolding InImage matrix_above matrix_unit
+    graph_to v (w, l, e) = (w, l ∙ graph_cols_length, sym e ∙ graph_apply P PL A w (l ∙ graph_cols_length))
+      where
+        graph_cols_length : length (graph p n A).columns ≡ c
+        graph_cols_length = graph_cols P PL A
+
+    graph_of : (w : List (Polynomial p n)) → length w ≡ c → InImage p n (generators p n (m + c) (graph p n A).columns) (apply P A w ++ w)
+    unfolding InImage matrix_above matrix_unit
+    graph_of w l = (w, l ∙ sym (graph_cols P PL A), graph_apply P PL A w l)
+
+    module _ (members : List (List (Polynomial p n))) (basis : IsGraphBasis p n o A members) where
+      abbrev X : setting.Setting
+      X = T p n (m + c) o
+
+      abbrev W : List (Polynomial p n) → Vect X
+      W v = val p n (m + c) o v
+
+      abbrev columns : List (List (Polynomial p n))
+      columns = (graph p n A).columns
+
+      abbrev basis_functions : setting.IsGroebner X (Divided p n (m + c) o members) (Generated p n (m + c) o columns)
+      basis_functions = groebner_of_basis p n (m + c) o members columns basis
+
+      generated_finite : (g : Vect X) → Generated p n (m + c) o columns g → IsFinite X g
+      generated_finite g v = finite_eq X v.2 (value_finite (ordered o n) (gf p) (gf_laws p) (gf_is_zero p) (m + c) v.0)
+
+      -- ---- the kernel
+      module _ (C : List (List (Polynomial p n))) (blocks : AreLowerBlocks p n m members C) where
+        abbrev below_columns : List (List (Polynomial p n))
+        below_columns = map (λ w. zero_vector p n m ++ w) C
+
+        -- a member that is zero in the upper block has its lower block among the columns
+        lower_member : (g : Vect X) → (h : ℕ × Monomial n) × Divided p n (m + c) o members g h × ((b : ℕ × Monomial n) → Upper b → g b ≡ (gf p).zero) → Span X (Generated p n (m + c) o below_columns) g
+        lower_member g (h, d, z) = lin_comb d.factor (span_member X (d.vector, listed, λ b. refl)) (lin_nil X) (λ b. scale_only (gf_laws p) d.factor (W d.vector b) (g b) (d.is b))
+          where
+            vector_zero : (b : ℕ × Monomial n) → Upper b → W d.vector b ≡ (gf p).zero
+            vector_zero b up =
+                sym ((gf_laws p).one_mul (W d.vector b))
+              ∙ ap (λ x. (gf p).mul x (W d.vector b)) (sym d.inverse ∙ (gf_laws p).mul_comm d.factor (W d.vector h))
+              ∙ (gf_laws p).mul_assoc (W d.vector h) d.factor (W d.vector b)
+              ∙ ap ((gf p).mul (W d.vector h)) (sym (d.is b) ∙ z b up)
+              ∙ mul_zero (gf_laws p) (W d.vector h)
+
+            split : d.vector ≡ zero_vector p n m ++ drop m d.vector
+            split = below_of_upper d.vector (image_length p n (m + c) o columns d.vector (basis.inside d.vector (contains_of_in d.is_member))) vector_zero
+
+            listed : In below_columns d.vector
+            listed = subst (In below_columns) (sym split) (in_map (λ w. zero_vector p n m ++ w)
+                (in_of_contains C (drop m d.vector) ((blocks (drop m d.vector)).1 (subst (Contains members) split (contains_of_in d.is_member)))))
+
+        -- the products of the columns below zeros are those of the columns, below zeros
+        lowered_to : (w : List (Polynomial p n)) → InImage p n (generators p n (m + c) below_columns) (zero_vector p n m ++ w) → InImage p n (generators p n c C) w
+        unfolding InImage polynomial_zero
+        lowered_to w (y, l, e) = (y, l ∙ length-map C (λ w. zero_vector p n m ++ w),
+            sym (append_injective (zeros P PL m) (zeros P PL m) w (apply P (generators p n c C) y) refl (sym e ∙ lowered_apply P PL m c C y)).1)
+
+        lowered_from : (w : List (Polynomial p n)) → InImage p n (generators p n c C) w → InImage p n (generators p n (m + c) below_columns) (zero_vector p n m ++ w)
+        unfolding InImage polynomial_zero
+        lowered_from w (y, l, e) = (y, l ∙ sym (length-map C (λ w. zero_vector p n m ++ w)), lowered_apply P PL m c C y ∙ ap (λ u. zeros P PL m ++ u) e)
+
+        kernel_to_image : (w : List (Polynomial p n)) → InKernel p n A w → InImage p n (generators p n c C) w
+        unfolding InKernel polynomial_zero
+        kernel_to_image w k = lowered_to w (image_of p n (m + c) o below_columns (zero_vector p n m ++ w) long in_lowers)
+          where
+            long : length (zero_vector p n m ++ w) ≡ m + c
+            long = length-append (zero_vector p n m) w ∙ ap₂ (λ x y. x + y) (length-replicate m P.zero) k.0
+
+            in_graph : InImage p n (generators p n (m + c) columns) (zero_vector p n m ++ w)
+            in_graph = subst (λ u. InImage p n (generators p n (m + c) columns) (u ++ w)) k.1 (graph_of w k.0)
+
+            in_lowers : Span X (Generated p n (m + c) o below_columns) (W (zero_vector p n m ++ w))
+            in_lowers = span_bind X (λ g l. lower_member g l)
+                (eliminate X (divided_monic p n (m + c) o members) basis_functions generated_finite Upper upper_dec (λ a b na ub. inl (lower_level a b na ub)) (λ t x up. up)
+                  (W (zero_vector p n m ++ w)) (span_of p n (m + c) o columns (zero_vector p n m ++ w) in_graph) (upper_zero w))
+
+        below_span : (g : Vect X) → Generated p n (m + c) o below_columns g → Span X (Generated p n (m + c) o columns) g
+        below_span g (v, i, e) =
+            let x = in_of_map (λ w. zero_vector p n m ++ w) C i in
+            lin_eq X (span_of p n (m + c) o columns v (basis.inside v (subst (Contains members) x.2 ((blocks x.0).0 (contains_of_in x.1))))) e
+
+        image_to_kernel : (w : List (Polynomial p n)) → InImage p n (generators p n c C) w → InKernel p n A w
+        unfolding InKernel polynomial_zero
+        image_to_kernel w i = in_kernel (graph_to (zero_vector p n m ++ w) (image_of p n (m + c) o columns (zero_vector p n m ++ w) long in_span))
+          where
+            long : length (zero_vector p n m ++ w) ≡ m + c
+            long = length-append (zero_vector p n m) w ∙ ap₂ (λ x y. x + y) (length-replicate m P.zero) (image_length p n c o C w i)
+
+            in_span : Span X (Generated p n (m + c) o columns) (W (zero_vector p n m ++ w))
+            in_span = span_bind X below_span (span_of p n (m + c) o below_columns (zero_vector p n m ++ w) (lowered_from w i))
+
+            in_kernel : (u : List (Polynomial p n)) × (length u ≡ c) × (zero_vector p n m ++ w ≡ apply P A u ++ u) → (length w ≡ c) × (apply P A w ≡ replicate m P.zero)
+            in_kernel (u, l, e) =
+                let parts = append_injective (zeros P PL m) (apply P A u) w u (length-replicate m P.zero ∙ sym (length-apply P A u)) e in
+                (ap length parts.1 ∙ l, ap (apply P A) parts.1 ∙ sym parts.0)
+
+        -- the lower blocks of the members with a zero upper block generate the kernel
+        pub kernel_of_graph : (w : List (Polynomial p n)) → InKernel p n A w ↔ InImage p n (generators p n c C) w
+        kernel_of_graph w = (kernel_to_image w, image_to_kernel w)
