@@ -81,6 +81,9 @@ module _ {R : Ring} (L : IsRing R) where
   pub diff_back : (r v : Carrier) → r ≡ neg 𝟙 ⊗ (neg 𝟙 ⊗ r ⊕ v) ⊕ v
   diff_back r v = sym (simp (L.one_mul, neg_mul, neg_sum, neg_neg) (L.add_assoc r (neg v) v ∙ ap (λ x. r ⊕ x) (L.neg_add v) ∙ add_zero r))
 
+  pub sum_back : (r v : Carrier) → v ≡ r ⊕ (neg 𝟙 ⊗ r ⊕ v)
+  sum_back r v = diff_forth r v ∙ L.add_comm (𝟙 ⊗ (neg 𝟙 ⊗ r ⊕ v)) r ∙ ap (λ x. r ⊕ x) (L.one_mul (neg 𝟙 ⊗ r ⊕ v))
+
   pub comb_zero : (c u w : Carrier) → u ≡ 𝟘 → w ≡ 𝟘 → c ⊗ u ⊕ w ≡ 𝟘
   comb_zero c u w e f = ap₂ (λ x y. c ⊗ x ⊕ y) e f ∙ add_zero (c ⊗ 𝟘) ∙ mul_zero c
 

@@ -54,6 +54,12 @@ module _ (p : Prime) (n m : ℕ) (o : Order) where
   unfolding InImage
   image_of gens v l s = image_of_span (ordered o n) (gf p) (gf_laws p) (gf_is_zero p) m gens v l s
 
+  -- each function in the span is that of a vector in the image
+  pub image_vector : (gens : List (List (Polynomial p n))) {u : Vect X} → Span X (Generated gens) u
+      → (v : List (Polynomial p n)) × InImage p n (generators p n m gens) v × ((b : ℕ × Monomial n) → u b ≡ W v b)
+  unfolding InImage
+  image_vector gens s = vector_of_span (ordered o n) (gf p) (gf_laws p) (gf_is_zero p) m gens s
+
   -- ---- from functions to vectors of polynomials
   basis_heads : (ms : List (List Term)) (i : ℕ) (a : Monomial n) → 0 < i → i ≤ m → Divides X (Members p n m o ms) (m - i, a) → HeadDivides p n o (vectors_of p n m ms) i a.exponents
   basis_heads ms i a pos within d = at_member d.by d.in_G.1 d.is
@@ -128,10 +134,9 @@ module _ (p : Prime) (n m : ℕ) (o : Order) where
 
     -- a basis of vectors of polynomials is one of functions
     pub groebner_of_basis : IsGroebner X (Divided members) (Generated gens)
-    unfolding InImage
     groebner_of_basis = record {
       members = λ g h d. lin_comb d.factor (span_of gens d.vector (basis.inside d.vector (contains_of_in d.is_member))) (lin_nil X) (λ b. scale_only (gf_laws p) d.factor (W d.vector b) (g b) (d.is b));
-      heads = λ u b s hd. heads u b hd (vector_of_span (ordered o n) (gf p) (gf_laws p) (gf_is_zero p) m gens s);
+      heads = λ u b s hd. heads u b hd (image_vector gens s);
     }
       where
         heads : (u : Vect X) (b : ℕ × Monomial n) → setting.IsHead X u b → (v : List (Polynomial p n)) × InImage p n (generators p n m gens) v × ((c : ℕ × Monomial n) → u c ≡ W v c)

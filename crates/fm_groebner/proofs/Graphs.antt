@@ -11,7 +11,7 @@ use Rattle.fm_algebra.specs.Matrix.{cols, component, apply}
 use Rattle.fm_algebra.specs.Polynomials.{Polynomial, polynomials, polynomial_zero, polynomial_negative}
 use Rattle.fm_algebra.specs.PolynomialMatrices.{PolynomialMatrix, InImage, InKernel, vector_product, matrix_above, matrix_unit}
 use Rattle.fm_algebra.proofs.Gf.{gf_laws}
-use Rattle.fm_algebra.proofs.Algebra.{mul_zero, neg_unique}
+use Rattle.fm_algebra.proofs.Algebra.{mul_zero, neg_unique, neg_zero}
 use Rattle.fm_algebra.proofs.Poly.{same_at_tuples}
 use Rattle.fm_algebra.proofs.PolyRing.{coeff_zero, coeff_add}
 use Rattle.fm_algebra.proofs.Tables.{length-apply}
@@ -22,7 +22,7 @@ use Rattle.fm_groebner.specs.Logs.{ReducesBy, IsIrreducible}
 use Rattle.fm_groebner.specs.Graphs.{graph, IsGraphBasis, zero_vector, vector_negative, AreLowerBlocks}
 use Rattle.fm_groebner.proofs.Setting as setting
 use Rattle.fm_groebner.proofs.Setting.{Vect, In, in_map, lin_comb, Span, Divides, IsFinite}
-use Rattle.fm_groebner.proofs.Algebra.{scale_only}
+use Rattle.fm_groebner.proofs.Algebra.{scale_only, sum_back}
 use Rattle.fm_groebner.proofs.Span.{lin_nil, lin_eq, span_member, span_bind, finite_eq}
 use Rattle.fm_groebner.proofs.Basis.{LowMembers, eliminate, reduces_span}
 use Rattle.fm_groebner.proofs.Monomials.{Monomial}
@@ -32,8 +32,9 @@ use Rattle.fm_groebner.proofs.Images.{Values, vector_of_span}
 use Rattle.fm_groebner.proofs.Numbers.{in_of_contains, contains_of_in, in_of_map}
 use Rattle.fm_groebner.proofs.TermValues.{S, val, val_outside, val_nil, head_of_terms}
 use Rattle.fm_groebner.proofs.MonicLists.{T, V, head_place, reduces_falling}
-use Rattle.fm_groebner.proofs.Bases.{Generated, Divided, divided_monic, groebner_of_basis, span_of, image_of, image_length, length_vector}
+use Rattle.fm_groebner.proofs.Bases.{Generated, Divided, divided_monic, groebner_of_basis, image_vector, span_of, image_of, image_length, length_vector}
 use Rattle.fm_groebner.proofs.Membership.{reduces_divided, divides_listed}
+use Rattle.fm_groebner.proofs.Twists.{component_map}
 use Rattle.fm_groebner.proofs.GraphMatrices.{append_injective, graph_cols, zeros, component_left, component_right, component_zeros, same_components, graph_generated, graph_apply, lowered, lowered_apply, below_zeros}
 
 module _ (p : Prime) (n : ℕ) (o : Order) where
@@ -196,3 +197,75 @@ module _ (p : Prime) (n : ℕ) (o : Order) where
         -- the lower blocks of the members with a zero upper block generate the kernel
         pub kernel_of_graph : (w : List (Polynomial p n)) → InKernel p n A w ↔ InImage p n (generators p n c C) w
         kernel_of_graph w = (kernel_to_image w, image_to_kernel w)
+
+    -- ---- the image
+    module _ (ms : List (List Term)) (falling : (x : List Term) → Contains ms x → IsFalling p n (m + c) o x) (basis : IsGraphBasis p n o A (vectors_of p n (m + c) ms))
+        {by : List ℕ} {t r : List Term} (red : ReducesBy p n (m + c) o ms by t r) (falls : IsFalling p n (m + c) o t) (v : List (Polynomial p n)) (fits : length v ≡ m)
+        (is : vector_of p n (m + c) t ≡ v ++ zero_vector p n c) where
+      abbrev Z : setting.Setting
+      Z = T p n (m + c) o
+
+      abbrev U : List (Polynomial p n) → Vect Z
+      U w = val p n (m + c) o w
+
+      rest : List (Polynomial p n)
+      rest = vector_of p n (m + c) r
+
+      abbrev graph_columns : List (List (Polynomial p n))
+      graph_columns = (graph p n A).columns
+
+      abbrev basis_family : setting.IsGroebner Z (Divided p n (m + c) o (vectors_of p n (m + c) ms)) (Generated p n (m + c) o graph_columns)
+      basis_family = groebner_of_basis p n (m + c) o (vectors_of p n (m + c) ms) graph_columns basis
+
+      reduction : setting.Reduces Z (Divided p n (m + c) o (vectors_of p n (m + c) ms)) (V p n (m + c) o t) (V p n (m + c) o r)
+      reduction = reduces_divided p n (m + c) o ms falling red falls
+
+      difference_span : Span Z (Generated p n (m + c) o graph_columns) (λ b. (gf p).add ((gf p).mul ((gf p).neg (gf p).one) (V p n (m + c) o r b)) (V p n (m + c) o t b))
+      difference_span = reduces_span Z basis_family.members reduction
+
+      -- v over zeros is the rest and a vector of the graph
+      Taken : List (Polynomial p n) → Type 0
+      Taken u = (length u ≡ c) × ((i : ℕ) → i < m + c → component P (v ++ zero_vector p n c) i ≡ P.add (component P rest i) (component P (apply P A u ++ u) i))
+
+      taken : (u : List (Polynomial p n)) × Taken u
+      unfolding Taken rest
+      taken =
+          let d = image_vector p n (m + c) o graph_columns difference_span in
+          let u = graph_to d.0 d.1 in
+          (u.0, (u.1, λ i h. ap (λ x. component P x i) (sym is)
+            ∙ component_sum (m + c) (vector_of p n (m + c) t) (vector_of p n (m + c) r) d.0
+                (λ b. sum_back (gf_laws p) (V p n (m + c) o r b) (V p n (m + c) o t b) ∙ ap ((gf p).add (V p n (m + c) o r b)) (d.2 b)) i h
+            ∙ ap (λ x. P.add (component P (vector_of p n (m + c) r) i) (component P x i)) u.2))
+
+      -- where the upper block of the rest is zero, minus its lower block is a solution
+      pub solution_of_rest : (w : List (Polynomial p n)) → vector_of p n (m + c) r ≡ zero_vector p n m ++ w → (length w ≡ c) × (vector_product p n A (vector_negative p n w) ≡ v)
+      unfolding Taken rest vector_product polynomial_negative polynomial_zero
+      solution_of_rest w e = (size, ap (apply P A) (sym lower) ∙ sym upper)
+        where
+          size : length w ≡ c
+          size =
+              let a : length (vector_of p n (m + c) r) ≡ m + c = length_vector p n (m + c) o r in
+              let b : length (zero_vector p n m ++ w) ≡ length (zero_vector p n m) + length w = length-append (zero_vector p n m) w in
+              let d : length (zero_vector p n m) ≡ m = length-replicate m P.zero in
+              let g : length (vector_of p n (m + c) r) ≡ length (zero_vector p n m ++ w) = ap length e in
+              omega (arith, a, b, d, g)
+
+          u : List (Polynomial p n)
+          u = taken.0
+
+          upper : v ≡ apply P A u
+          upper = same_components P PL m v (apply P A u) fits (length-apply P A u) (λ i h.
+              sym (component_left P PL v (zeros P PL c) i (subst (λ x. i < x) (sym fits) h))
+            ∙ taken.1.1 i (omega (arith, h))
+            ∙ ap₂ P.add (ap (λ x. component P x i) e ∙ component_left P PL (zeros P PL m) w i (subst (λ x. i < x) (sym (length-replicate m P.zero)) h) ∙ component_zeros P PL m i h)
+                (component_left P PL (apply P A u) u i (subst (λ x. i < x) (sym (length-apply P A u)) h))
+            ∙ PL.zero_add (component P (apply P A u) i))
+
+          lower : u ≡ map P.neg w
+          lower = same_components P PL c u (map P.neg w) taken.1.0 (length-map w P.neg ∙ size) (λ j h.
+              neg_unique PL (component P w j) (component P u j) (sym (
+                sym (component_zeros P PL c j h)
+              ∙ sym (component_right P PL m v (zeros P PL c) j fits)
+              ∙ taken.1.1 (m + j) (omega (arith, h))
+              ∙ ap₂ P.add (ap (λ x. component P x (m + j)) e ∙ component_right P PL m (zeros P PL m) w j (length-replicate m P.zero)) (component_right P PL m (apply P A u) u j (length-apply P A u))))
+            ∙ sym (component_map p n P.neg (neg_zero PL) w j))

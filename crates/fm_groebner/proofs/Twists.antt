@@ -38,7 +38,7 @@ use Rattle.fm_groebner.proofs.Monomials.{divides_sum}
 module _ (p : Prime) (n : ℕ) where
   -- ---- maps of vectors and images
   module _ (φ : Polynomial p n → Polynomial p n) (on_zero : φ (polynomials p n).zero ≡ (polynomials p n).zero) where
-    component_map : (v : List (Polynomial p n)) (i : ℕ) → component (polynomials p n) (map φ v) i ≡ φ (component (polynomials p n) v i)
+    pub component_map : (v : List (Polynomial p n)) (i : ℕ) → component (polynomials p n) (map φ v) i ≡ φ (component (polynomials p n) v i)
     unfolding component
     component_map v i = ap (get_or (map φ v) i) (sym on_zero) ∙ get_or-map φ v i (polynomials p n).zero
 
