@@ -22,7 +22,7 @@ use Rattle.fm_groebner.specs.Logs.{ReducesBy, IsIrreducible}
 use Rattle.fm_groebner.specs.Graphs.{graph, IsGraphBasis, zero_vector, vector_negative, AreLowerBlocks}
 use Rattle.fm_groebner.proofs.Setting as setting
 use Rattle.fm_groebner.proofs.Setting.{Vect, In, in_map, lin_comb, Span, Divides, IsFinite}
-use Rattle.fm_groebner.proofs.Algebra.{scale_only, sum_back}
+use Rattle.fm_groebner.proofs.Algebra.{scale_only, sum_back, diff_back}
 use Rattle.fm_groebner.proofs.Span.{lin_nil, lin_eq, span_member, span_bind, finite_eq}
 use Rattle.fm_groebner.proofs.Basis.{LowMembers, eliminate, reduces_span}
 use Rattle.fm_groebner.proofs.Monomials.{Monomial}
@@ -198,6 +198,26 @@ module _ (p : Prime) (n : ℕ) (o : Order) where
         pub kernel_of_graph : (w : List (Polynomial p n)) → InKernel p n A w ↔ InImage p n (generators p n c C) w
         kernel_of_graph w = (kernel_to_image w, image_to_kernel w)
 
+    -- vectors with one upper block
+    upper_same : (v x y : List (Polynomial p n)) → length v ≡ m → (b : ℕ × Monomial n) → Upper b → val p n (m + c) o (v ++ x) b ≡ val p n (m + c) o (v ++ y) b
+    upper_same v x y f b up = elim (dec_lt b.0 (m + c)) [
+      | no nb ↦ val_outside p n (m + c) o (v ++ x) b nb ∙ sym (val_outside p n (m + c) o (v ++ y) b nb)
+      | yes l ↦
+          let inside : (m + c) - suc b.0 < m + c = omega arith in
+          let i : (m + c) - suc b.0 < length v = omega (arith, up, l, f) in
+          let level : (m + c) - suc ((m + c) - suc b.0) ≡ b.0 = omega arith in
+          subst (λ k. val p n (m + c) o (v ++ x) (k, b.1) ≡ val p n (m + c) o (v ++ y) (k, b.1)) level
+            (val_component (m + c) (v ++ x) ((m + c) - suc b.0) b.1 inside
+            ∙ ap (λ g. coeff g b.1.exponents) (component_left P PL v x ((m + c) - suc b.0) i ∙ sym (component_left P PL v y ((m + c) - suc b.0) i))
+            ∙ sym (val_component (m + c) (v ++ y) ((m + c) - suc b.0) b.1 inside))
+    ]
+
+    -- a falling list whose head is not in the upper block is zero there
+    upper_of_rest : (r : List Term) → IsFalling p n (m + c) o r → ((s : Term) (rs : List Term) (f : IsFalling p n (m + c) o (s ∷ rs)) → r ≡ s ∷ rs → ¬ (Upper (head_place p n (m + c) o (s ∷ rs) f)))
+        → (b : ℕ × Monomial n) → Upper b → V p n (m + c) o r b ≡ (gf p).zero
+    upper_of_rest [] f low b up = val_nil p n (m + c) o b
+    upper_of_rest (s ∷ rs) f low b up = (head_of_terms p n (m + c) o s rs f).1 b (inl (lower_level (head_place p n (m + c) o (s ∷ rs) f) b (low s rs f refl) up))
+
     -- ---- the image
     module _ (ms : List (List Term)) (falling : (x : List Term) → Contains ms x → IsFalling p n (m + c) o x) (basis : IsGraphBasis p n o A (vectors_of p n (m + c) ms))
         {by : List ℕ} {t r : List Term} (red : ReducesBy p n (m + c) o ms by t r) (falls : IsFalling p n (m + c) o t) (v : List (Polynomial p n)) (fits : length v ≡ m)
@@ -269,3 +289,44 @@ module _ (p : Prime) (n : ℕ) (o : Order) where
               ∙ taken.1.1 (m + j) (omega (arith, h))
               ∙ ap₂ P.add (ap (λ x. component P x (m + j)) e ∙ component_right P PL m (zeros P PL m) w j (length-replicate m P.zero)) (component_right P PL m (apply P A u) u j (length-apply P A u))))
             ∙ sym (component_map p n P.neg (neg_zero PL) w j))
+
+      -- where v is in the image, the upper block of an irreducible rest is zero
+      module _ (irreducible : IsIrreducible ms r) (x : List (Polynomial p n)) (size : length x ≡ c) (solves : apply P A x ≡ v) where
+        Y : Vect Z
+        Y b = (gf p).add ((gf p).mul ((gf p).neg (gf p).one) ((gf p).add ((gf p).mul ((gf p).neg (gf p).one) (V p n (m + c) o r b)) (V p n (m + c) o t b))) (U (v ++ x) b)
+
+        y_span : Span Z (Generated p n (m + c) o graph_columns) Y
+        unfolding Y
+        y_span = lin_comb ((gf p).neg (gf p).one) difference_span
+            (span_of p n (m + c) o graph_columns (v ++ x) (subst (λ u. InImage p n (generators p n (m + c) graph_columns) (u ++ x)) solves (graph_of x size))) (λ b. refl)
+
+        y_upper : (b : ℕ × Monomial n) → Upper b → Y b ≡ V p n (m + c) o r b
+        unfolding Y
+        y_upper b up = ap ((gf p).add ((gf p).mul ((gf p).neg (gf p).one) ((gf p).add ((gf p).mul ((gf p).neg (gf p).one) (V p n (m + c) o r b)) (V p n (m + c) o t b))))
+              (upper_same v x (zero_vector p n c) fits b up ∙ ap (λ u. U u b) (sym is))
+            ∙ sym (diff_back (gf_laws p) (V p n (m + c) o r b) (V p n (m + c) o t b))
+
+        head_low : (s : Term) (rs : List Term) (f : IsFalling p n (m + c) o (s ∷ rs)) → r ≡ s ∷ rs → ¬ (Upper (head_place p n (m + c) o (s ∷ rs) f))
+        head_low s rs f e up = divides_listed p n (m + c) o ms falling s rs f (subst (IsIrreducible ms) e irreducible)
+            (basis_family.heads Y (head_place p n (m + c) o (s ∷ rs) f) y_span y_head)
+          where
+            hd : setting.IsHead Z (V p n (m + c) o r) (head_place p n (m + c) o (s ∷ rs) f)
+            hd = subst (λ z. setting.IsHead Z (V p n (m + c) o z) (head_place p n (m + c) o (s ∷ rs) f)) (sym e) (head_of_terms p n (m + c) o s rs f)
+
+            level_up : (b : ℕ × Monomial n) → Z.Less (head_place p n (m + c) o (s ∷ rs) f) b → c ≤ b.0
+            level_up b (inl l) = omega (arith, up, l)
+            level_up b (inr l) = let q = l.0 in omega (arith, up, q)
+
+            y_head : setting.IsHead Z Y (head_place p n (m + c) o (s ∷ rs) f)
+            y_head = ((λ z. hd.0 (sym (y_upper (head_place p n (m + c) o (s ∷ rs) f) up) ∙ z)), λ b l. y_upper b (level_up b l) ∙ hd.1 b l)
+
+        pub rest_of_solution : vector_of p n (m + c) r ≡ zero_vector p n m ++ drop m (vector_of p n (m + c) r)
+        rest_of_solution = below_of_upper (vector_of p n (m + c) r) (length_vector p n (m + c) o r) (upper_of_rest r (reduces_falling p n (m + c) o red falls) head_low)
+
+      -- v is in the image exactly where the upper block of an irreducible rest is zero
+      pub image_of_graph : IsIrreducible ms r → InImage p n A v ↔ (w : List (Polynomial p n)) × (vector_of p n (m + c) r ≡ zero_vector p n m ++ w)
+      unfolding InImage vector_product
+      image_of_graph irreducible = (
+        λ i. (drop m (vector_of p n (m + c) r), rest_of_solution irreducible i.0 i.1 i.2),
+        λ w. let s = solution_of_rest w.0 w.1 in (vector_negative p n w.0, length-map w.0 (polynomial_negative p n) ∙ s.0, s.1),
+      )
