@@ -19,3 +19,4 @@ pub mod Membership
 pub mod Twists
 pub mod GraphMatrices
 pub mod Graphs
+pub mod NormalForms

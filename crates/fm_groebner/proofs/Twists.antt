@@ -76,7 +76,7 @@ module _ (p : Prime) (n : ℕ) where
     abbrev q : ℕ
     q = prime_value p ^ e
 
-    twist_zero_is : frobenius_twist p n e (polynomials p n).zero ≡ (polynomials p n).zero
+    pub twist_zero_is : frobenius_twist p n e (polynomials p n).zero ≡ (polynomials p n).zero
     twist_zero_is = twist_zero (polynomials_laws p n) (polynomials_sliced p n e)
 
     entry_twisted : (gens : List (List (Polynomial p n))) (i k : ℕ)
@@ -102,7 +102,7 @@ module _ (p : Prime) (n : ℕ) where
           ∙ (polynomials_sliced p n e).slice_mul d (entry (polynomials p n) (generators p n m gens) i k) b) v i
 
     -- ---- heads
-    multiple_cmp : (j i : ℕ) (b c : List ℕ) → place_cmp o j (tuple_multiple q b) i (tuple_multiple q c) ≡ place_cmp o j b i c
+    pub multiple_cmp : (j i : ℕ) (b c : List ℕ) → place_cmp o j (tuple_multiple q b) i (tuple_multiple q c) ≡ place_cmp o j b i c
     multiple_cmp j i b c = ap (ordering_then (nat_cmp i j)) (monomial_cmp_multiple o q b c (q_positive p n e))
 
     shifted_cmp : (j i : ℕ) (b c r : List ℕ) → length b ≡ n → length c ≡ n → length r ≡ n → place_cmp o j (tuple_place q b r) i (tuple_place q c r) ≡ place_cmp o j b i c

@@ -1,11 +1,11 @@
 -- Vectors of polynomials as lists of terms, in position over term order (Adams and Loustaunau, An Introduction to Gröbner Bases, 1994, section 3.5).
-use Rattle.std.specs.Prelude.{◌≡◌, ℕ, suc, ◌*◌, ◌%◌, ◌<◌, ◌≤◌, List, [], ◌∷◌, map, cond, eqb, length}
+use Rattle.std.specs.Prelude.{◌≡◌, ℕ, suc, ◌*◌, ◌%◌, ◌^◌, ◌<◌, ◌≤◌, List, [], ◌∷◌, map, cond, eqb, length}
 use Rattle.std.specs.Ordering.{nat_cmp, ordering_then}
 use Rattle.std.specs.declared.cmp.Ordering.{Ordering}
 use Rattle.std.specs.declared.cmp.Ordering.TheVariants.{Less}
 use Rattle.fm_gfp.specs.Primes.{prime_value}
 use Rattle.fm_gfp.specs.declared.prime.Prime.{Prime}
-use Rattle.fm_tuple.specs.Tuple.{tuple_sum, TupleDivides}
+use Rattle.fm_tuple.specs.Tuple.{tuple_sum, tuple_multiple, TupleDivides}
 use Rattle.fm_mono.specs.Orders.{monomial_cmp}
 use Rattle.fm_mono.specs.declared.order.Order.{Order}
 use Rattle.fm_algebra.specs.Matrix.{listed}
@@ -73,3 +73,15 @@ scaled_term p c t = record { component = t.component; exponents = t.exponents; c
 
 abbrev pub scaled_terms : Prime → ℕ → List Term → List Term
 scaled_terms p c ts = map (scaled_term p c) ts
+
+-- the terms of the Frobenius twist by q = p^e: every exponent multiplied by q
+abbrev pub twisted_term : Prime → ℕ → Term → Term
+twisted_term p e t = record { component = t.component; exponents = tuple_multiple (prime_value p ^ e) t.exponents; coefficient = t.coefficient }
+
+abbrev pub twisted_terms : Prime → ℕ → List Term → List Term
+twisted_terms p e ts = map (twisted_term p e) ts
+
+-- the head of a list of terms, if it has one, stands below the first m components
+abbrev pub IsBelowBlock : ℕ → List Term → Type 0
+IsBelowBlock m [] = Unit {0}
+IsBelowBlock m (t ∷ ts) = m < t.component
