@@ -20,3 +20,4 @@ pub mod Twists
 pub mod GraphMatrices
 pub mod Graphs
 pub mod NormalForms
+pub mod TermWords

@@ -40,7 +40,7 @@ module _ (p : Prime) (n m : ℕ) (o : Order) where
   abbrev X : setting.Setting
   X = T p n m o
 
-  component_of_vector : (ts : List Term) (i : ℕ) → i < m → component (polynomials p n) (vector_of p n m ts) i ≡ polynomial_of p n (terms_in (suc i) ts)
+  pub component_of_vector : (ts : List Term) (i : ℕ) → i < m → component (polynomials p n) (vector_of p n m ts) i ≡ polynomial_of p n (terms_in (suc i) ts)
   unfolding component vector_of
   component_of_vector ts i h = get_or-listed m i (polynomials p n).zero (λ i. polynomial_of p n (terms_in (suc i) ts)) h
 
