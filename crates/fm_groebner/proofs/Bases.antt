@@ -1,31 +1,27 @@
 -- Gröbner bases of vectors of polynomials, and of their functions.
-use Rattle.std.proofs.Common.{◌≡◌, ◌⊎◌, ◌↔◌, inl, inr, ℕ, zero, suc, ◌+◌, ◌-◌, ◌*◌, ◌%◌, ◌<◌, ◌≤◌, List, [], ◌∷◌, ◌++◌, map, length, Contains, refl, sym, ap, ap₂, ◌∙◌, subst, arith}
-use Rattle.fm_gfp.specs.Primes.{prime_value}
+use Rattle.std.proofs.Common.{◌≡◌, inl, inr, ℕ, ◌-◌, ◌<◌, ◌≤◌, List, [], ◌∷◌, length, refl, sym, ap, ◌∙◌, subst, arith}
 use Rattle.fm_gfp.specs.declared.prime.Prime.{Prime}
-use Rattle.fm_tuple.specs.Tuple.{tuple_difference, TupleDivides}
+use Rattle.fm_tuple.specs.Tuple.{TupleDivides}
 use Rattle.fm_mono.specs.declared.order.Order.{Order}
 use Rattle.fm_algebra.specs.Gf.{gf, gf_is_zero}
 use Rattle.fm_algebra.specs.PolynomialMatrices.{InImage}
 use Rattle.fm_algebra.specs.Polynomials.{Polynomial, polynomials}
 use Rattle.fm_algebra.proofs.Gf.{gf_laws, gf_field}
 use Rattle.fm_algebra.proofs.Tables.{length-listed, length-apply}
-use Rattle.fm_groebner.specs.Terms.{Term, TermDivides, IsFalling, vector_of, vectors_of}
+use Rattle.fm_groebner.specs.Terms.{Term, vector_of, vectors_of}
 use Rattle.fm_groebner.specs.Bases.{IsHead, generators, HeadDivides, IsGroebnerBasis}
-use Rattle.fm_groebner.specs.Logs.{ReducesBy, no_more, one_more, IsIrreducible}
 use Rattle.fm_groebner.proofs.Setting as setting
 use Rattle.fm_groebner.proofs.Setting.{Vect, Family, In, in_map, lin_zero, lin_comb, shift, Span, Divides, IsGroebner, IsNil, Reduces, done, step}
-use Rattle.fm_groebner.proofs.Algebra.{scale_only, mul_zero, neg_mul}
-use Rattle.fm_groebner.proofs.Span.{lin_eq, lin_nil, span_member, head_one, head_eq, shift_linear, shift_eq}
-use Rattle.fm_groebner.proofs.Basis.{member_iff}
-use Rattle.fm_groebner.proofs.Monomials.{Monomial, ◌·◌, difference, times_comm, times_difference, divides_times}
+use Rattle.fm_groebner.proofs.Algebra.{scale_only, mul_zero}
+use Rattle.fm_groebner.proofs.Span.{lin_nil, head_eq}
+use Rattle.fm_groebner.proofs.Monomials.{Monomial, difference, times_comm, times_difference, divides_times}
 use Rattle.fm_groebner.proofs.Places.{same_place}
 use Rattle.fm_groebner.proofs.Ordered.{ordered}
-use Rattle.fm_groebner.proofs.Values.{same_vector}
 use Rattle.fm_groebner.proofs.Images.{Values, span_of_image, image_of_span, vector_of_span}
 use Rattle.fm_groebner.proofs.Numbers.{in_of_contains, contains_of_in, in_of_map, in_of_number, number_of_in}
 use Rattle.fm_groebner.proofs.Heads.{head_to, head_from, head_level}
-use Rattle.fm_groebner.proofs.TermValues.{val, number, fits_of, place_of, all_fit, val_nil, val_head, head_of_terms, empty_of_nil, number_nonzero, number_times}
-use Rattle.fm_groebner.proofs.MonicLists.{T, V, head_place, MemberAt, member_at, Members, AllMonic, taken_away, reduces_falling}
+use Rattle.fm_groebner.proofs.TermValues.{val, fits_of, head_of_terms}
+use Rattle.fm_groebner.proofs.MonicLists.{T, V, head_place, MemberAt, member_at, Members, AllMonic}
 
 module _ (p : Prime) (n m : ℕ) (o : Order) where
   abbrev X : setting.Setting

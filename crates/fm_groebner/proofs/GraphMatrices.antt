@@ -1,14 +1,14 @@
 -- A matrix above the unit matrix, and blocks of vectors.
-use Rattle.std.proofs.Common.{◌≡◌, ◌≢◌, ◌⊎◌, inl, inr, ℕ, zero, suc, ◌+◌, ◌-◌, ◌<◌, ◌≤◌, Bool, true, false, cond, eqb, ltb, List, [], ◌∷◌, ◌++◌, map, length, replicate, get_or, drop, take, refl, sym, ap, ap₂, ◌∙◌, subst, arith}
+use Rattle.std.proofs.Common.{◌≡◌, ℕ, ◌+◌, ◌-◌, ◌<◌, cond, eqb, ltb, List, [], ◌∷◌, ◌++◌, map, length, replicate, get_or, drop, refl, sym, ap, ap₂, ◌∙◌, subst, arith}
 use Rattle.std.proofs.lemmas.Bool.{lt-ltb, le-ltb}
 use Rattle.std.proofs.lemmas.List.{get_or-map, get_or_append_left, get_or-append-add, get_or-replicate, get_or-drop, length-append, length-map, length-replicate, length-drop}
 use native.Mathlib.Decide.{dec_lt}
 use Rattle.fm_algebra.specs.Ring.{Ring, IsRing}
 use Rattle.fm_algebra.specs.FiniteSums.{finite_sum}
-use Rattle.fm_algebra.specs.Matrix.{Matrix, cols, component, entry, listed, apply, table, stacked, unit_matrix, scalar_matrix}
-use Rattle.fm_algebra.proofs.Algebra.{mul_zero, zero_mul}
-use Rattle.fm_algebra.proofs.FiniteSums.{sum_ext, sum_zero, sum_only, sum_cast, where_same, where_other}
-use Rattle.fm_algebra.proofs.Tables.{length-listed, get_or-listed, entry_table, length-apply, vector_injective, cols_table, rows_table}
+use Rattle.fm_algebra.specs.Matrix.{Matrix, cols, component, entry, apply, table, stacked, unit_matrix, scalar_matrix}
+use Rattle.fm_algebra.proofs.Algebra.{zero_mul}
+use Rattle.fm_algebra.proofs.FiniteSums.{sum_zero, sum_only, sum_cast, where_same, where_other}
+use Rattle.fm_algebra.proofs.Tables.{get_or-listed, entry_table, length-apply, vector_injective, cols_table}
 
 -- two joins whose first parts have one length
 pub append_injective : {A : Type 0} (u u' v v' : List A) → length u ≡ length u' → u ++ v ≡ u' ++ v' → (u ≡ u') × (v ≡ v')

@@ -1,41 +1,38 @@
 -- Kernels and images from a Gröbner basis of the graph of a matrix.
-use Rattle.std.proofs.Common.{◌≡◌, ◌⊎◌, ◌↔◌, inl, inr, ℕ, zero, suc, ◌+◌, ◌-◌, ◌<◌, ◌≤◌, List, [], ◌∷◌, ◌++◌, map, length, replicate, drop, Contains, refl, sym, ap, ap₂, ◌∙◌, subst, arith}
-use Rattle.std.proofs.lemmas.List.{length-append, length-map, length-replicate, length-drop}
-use native.Mathlib.Decide.{dec_lt}
+use Rattle.std.proofs.Common.{◌≡◌, ◌↔◌, inl, inr, ℕ, ◌+◌, ◌<◌, ◌≤◌, List, ◌∷◌, ◌++◌, map, length, replicate, drop, Contains, refl, sym, ap, ap₂, ◌∙◌, subst, arith}
+use Rattle.std.proofs.lemmas.List.{length-append, length-map, length-replicate}
 use Rattle.fm_gfp.specs.declared.prime.Prime.{Prime}
 use Rattle.fm_mono.specs.declared.order.Order.{Order}
 use Rattle.fm_algebra.specs.Ring.{Ring, IsRing}
 use Rattle.fm_algebra.specs.Gf.{gf, gf_is_zero}
-use Rattle.fm_algebra.specs.Poly.{coeff}
-use Rattle.fm_algebra.specs.Matrix.{cols, component, apply}
+use Rattle.fm_algebra.specs.Matrix.{component, apply}
 use Rattle.fm_algebra.specs.Polynomials.{Polynomial, polynomials, polynomial_zero, polynomial_negative}
 use Rattle.fm_algebra.specs.PolynomialMatrices.{PolynomialMatrix, InImage, InKernel, vector_product, matrix_above, matrix_unit}
 use Rattle.fm_algebra.proofs.Gf.{gf_laws}
 use Rattle.fm_algebra.proofs.Algebra.{mul_zero, neg_unique, neg_zero}
-use Rattle.fm_algebra.proofs.Poly.{same_at_tuples}
-use Rattle.fm_algebra.proofs.PolyRing.{coeff_zero, coeff_add}
 use Rattle.fm_algebra.proofs.Tables.{length-apply}
 use Rattle.fm_algebra.proofs.Concrete.{polynomials_laws}
 use Rattle.fm_groebner.specs.Terms.{Term, IsFalling, vector_of, vectors_of}
-use Rattle.fm_groebner.specs.Bases.{generators, IsGroebnerBasis}
+use Rattle.fm_groebner.specs.Bases.{generators}
 use Rattle.fm_groebner.specs.Logs.{ReducesBy, IsIrreducible}
 use Rattle.fm_groebner.specs.Graphs.{graph, IsGraphBasis, zero_vector, vector_negative, AreLowerBlocks}
 use Rattle.fm_groebner.proofs.Setting as setting
 use Rattle.fm_groebner.proofs.Setting.{Vect, In, in_map, lin_comb, Span, Divides, IsFinite}
 use Rattle.fm_groebner.proofs.Algebra.{scale_only, sum_back, diff_back}
 use Rattle.fm_groebner.proofs.Span.{lin_nil, lin_eq, span_member, span_bind, finite_eq}
-use Rattle.fm_groebner.proofs.Basis.{LowMembers, eliminate, reduces_span}
+use Rattle.fm_groebner.proofs.Basis.{eliminate, reduces_span}
 use Rattle.fm_groebner.proofs.Monomials.{Monomial}
 use Rattle.fm_groebner.proofs.Ordered.{ordered}
-use Rattle.fm_groebner.proofs.Values.{value_is, value_finite, component_from, component_at}
-use Rattle.fm_groebner.proofs.Images.{Values, vector_of_span}
+use Rattle.fm_groebner.proofs.Values.{value_finite}
 use Rattle.fm_groebner.proofs.Numbers.{in_of_contains, contains_of_in, in_of_map}
-use Rattle.fm_groebner.proofs.TermValues.{S, val, val_outside, val_nil, head_of_terms}
+use Rattle.fm_groebner.proofs.TermValues.{val, head_of_terms}
 use Rattle.fm_groebner.proofs.MonicLists.{T, V, head_place, reduces_falling}
 use Rattle.fm_groebner.proofs.Bases.{Generated, Divided, divided_monic, groebner_of_basis, image_vector, span_of, image_of, image_length, length_vector}
+use Rattle.fm_groebner.proofs.Blocks as Blocks
+use Rattle.fm_groebner.proofs.Blocks.{component_sum, upper_dec, lower_level, upper_zero, below_of_upper, upper_same, upper_of_rest}
 use Rattle.fm_groebner.proofs.Membership.{reduces_divided, divides_listed}
 use Rattle.fm_groebner.proofs.Twists.{component_map}
-use Rattle.fm_groebner.proofs.GraphMatrices.{append_injective, graph_cols, zeros, component_left, component_right, component_zeros, same_components, graph_generated, graph_apply, lowered, lowered_apply, below_zeros}
+use Rattle.fm_groebner.proofs.GraphMatrices.{append_injective, graph_cols, zeros, component_left, component_right, component_zeros, same_components, graph_apply, lowered_apply}
 
 module _ (p : Prime) (n : ℕ) (o : Order) where
   abbrev P : Ring
@@ -44,22 +41,6 @@ module _ (p : Prime) (n : ℕ) (o : Order) where
   PL : IsRing P
   PL = polynomials_laws p n
 
-  -- ---- vectors by their functions
-  -- the component i is zero where its coefficients are
-  component_zero : (l : ℕ) (v : List (Polynomial p n)) (i : ℕ) → i < l → ((a : Monomial n) → val p n l o v (l - suc i, a) ≡ (gf p).zero) → component P v i ≡ P.zero
-  component_zero l v i h z = sym (component_from (ordered o n) (gf p) (gf_laws p) (gf_is_zero p) l i v h)
-      ∙ same_at_tuples (gf p) (gf_is_zero p) n (component_at (ordered o n) (gf p) (gf_laws p) (gf_is_zero p) l v (l - suc i)) P.zero
-          (λ a f. sym (value_is (ordered o n) (gf p) (gf_laws p) (gf_is_zero p) l v (l - suc i, record { exponents = a; fits = f })) ∙ z (record { exponents = a; fits = f }) ∙ sym (ap (λ h. h a) (coeff_zero (gf p) (gf_laws p) (gf_is_zero p) n)))
-
-  val_component : (l : ℕ) (v : List (Polynomial p n)) (i : ℕ) (a : Monomial n) → i < l → val p n l o v (l - suc i, a) ≡ coeff (component P v i) a.exponents
-  val_component l v i a h = value_is (ordered o n) (gf p) (gf_laws p) (gf_is_zero p) l v (l - suc i, a) ∙ ap (λ f. coeff f a.exponents) (component_from (ordered o n) (gf p) (gf_laws p) (gf_is_zero p) l i v h)
-
-  -- where a function is the sum of two, so are the components
-  component_sum : (l : ℕ) (u v w : List (Polynomial p n)) → ((b : ℕ × Monomial n) → val p n l o u b ≡ (gf p).add (val p n l o v b) (val p n l o w b)) → (i : ℕ) → i < l → component P u i ≡ P.add (component P v i) (component P w i)
-  component_sum l u v w e i h = same_at_tuples (gf p) (gf_is_zero p) n (component P u i) (P.add (component P v i) (component P w i)) (λ a f.
-      let at : Monomial n = record { exponents = a; fits = f } in
-      sym (val_component l u i at h) ∙ e (l - suc i, at) ∙ ap₂ (gf p).add (val_component l v i at h) (val_component l w i at h) ∙ sym (ap (λ g. g a) (coeff_add (gf p) (gf_laws p) (gf_is_zero p) n (component P v i) (component P w i))))
-
   module _ (A : PolynomialMatrix p n) where
     abbrev m : ℕ
     m = A.rows
@@ -67,35 +48,8 @@ module _ (p : Prime) (n : ℕ) (o : Order) where
     abbrev c : ℕ
     c = length A.columns
 
-    -- the places of the upper block
     abbrev Upper : ℕ × Monomial n → Type 0
-    Upper b = c ≤ b.0
-
-    upper_dec : (b : ℕ × Monomial n) → Dec (c ≤ b.0)
-    upper_dec b = elim (dec_lt b.0 c) [ yes l ↦ no (λ h. absurd (omega (arith, l, h))) | no nl ↦ yes (omega (arith, nl)) ]
-
-    lower_level : (a b : ℕ × Monomial n) → ¬ (c ≤ a.0) → c ≤ b.0 → a.0 < b.0
-    lower_level a b na ub = omega (arith, na, ub)
-
-    -- a vector below zeros is zero in the upper block
-    upper_zero : (w : List (Polynomial p n)) → (b : ℕ × Monomial n) → Upper b → val p n (m + c) o (zero_vector p n m ++ w) b ≡ (gf p).zero
-    unfolding polynomial_zero
-    upper_zero w b up = elim (dec_lt b.0 (m + c)) [
-      | no nb ↦ val_outside p n (m + c) o (zero_vector p n m ++ w) b nb
-      | yes l ↦
-          let i : (m + c) - suc b.0 < m = omega (arith, up, l) in
-          let inside : (m + c) - suc b.0 < m + c = omega arith in
-          let level : (m + c) - suc ((m + c) - suc b.0) ≡ b.0 = omega arith in
-          ap (λ k. val p n (m + c) o (zero_vector p n m ++ w) (k, b.1)) (sym level)
-        ∙ val_component (m + c) (zero_vector p n m ++ w) ((m + c) - suc b.0) b.1 inside
-        ∙ ap (λ f. coeff f b.1.exponents) (component_left P PL (zeros P PL m) w ((m + c) - suc b.0) (subst (λ x. (m + c) - suc b.0 < x) (sym (length-replicate m P.zero)) i) ∙ component_zeros P PL m ((m + c) - suc b.0) i)
-        ∙ ap (λ h. h b.1.exponents) (coeff_zero (gf p) (gf_laws p) (gf_is_zero p) n)
-    ]
-
-    -- a vector that is zero in the upper block is below zeros
-    below_of_upper : (v : List (Polynomial p n)) → length v ≡ m + c → ((b : ℕ × Monomial n) → Upper b → val p n (m + c) o v b ≡ (gf p).zero) → v ≡ zero_vector p n m ++ drop m v
-    unfolding polynomial_zero
-    below_of_upper v l z = below_zeros P PL m c v l (λ i h. component_zero (m + c) v i (omega arith) (λ a. z ((m + c) - suc i, a) (omega arith)))
+    Upper = Blocks.Upper p n o m c
 
     -- ---- the image of the graph
     graph_to : (v : List (Polynomial p n)) → InImage p n (generators p n (m + c) (graph p n A).columns) v → (w : List (Polynomial p n)) × (length w ≡ c) × (v ≡ apply P A w ++ w)
@@ -143,7 +97,7 @@ module _ (p : Prime) (n : ℕ) (o : Order) where
               ∙ mul_zero (gf_laws p) (W d.vector h)
 
             split : d.vector ≡ zero_vector p n m ++ drop m d.vector
-            split = below_of_upper d.vector (image_length p n (m + c) o columns d.vector (basis.inside d.vector (contains_of_in d.is_member))) vector_zero
+            split = below_of_upper p n o m c d.vector (image_length p n (m + c) o columns d.vector (basis.inside d.vector (contains_of_in d.is_member))) vector_zero
 
             listed : In below_columns d.vector
             listed = subst (In below_columns) (sym split) (in_map (λ w. zero_vector p n m ++ w)
@@ -171,8 +125,8 @@ module _ (p : Prime) (n : ℕ) (o : Order) where
 
             in_lowers : Span X (Generated p n (m + c) o below_columns) (W (zero_vector p n m ++ w))
             in_lowers = span_bind X (λ g l. lower_member g l)
-                (eliminate X (divided_monic p n (m + c) o members) basis_functions generated_finite Upper upper_dec (λ a b na ub. inl (lower_level a b na ub)) (λ t x up. up)
-                  (W (zero_vector p n m ++ w)) (span_of p n (m + c) o columns (zero_vector p n m ++ w) in_graph) (upper_zero w))
+                (eliminate X (divided_monic p n (m + c) o members) basis_functions generated_finite Upper (upper_dec p n o m c) (λ a b na ub. inl (lower_level p n o m c a b na ub)) (λ t x up. up)
+                  (W (zero_vector p n m ++ w)) (span_of p n (m + c) o columns (zero_vector p n m ++ w) in_graph) (upper_zero p n o m c w))
 
         below_span : (g : Vect X) → Generated p n (m + c) o below_columns g → Span X (Generated p n (m + c) o columns) g
         below_span g (v, i, e) =
@@ -197,26 +151,6 @@ module _ (p : Prime) (n : ℕ) (o : Order) where
         -- the lower blocks of the members with a zero upper block generate the kernel
         pub kernel_of_graph : (w : List (Polynomial p n)) → InKernel p n A w ↔ InImage p n (generators p n c C) w
         kernel_of_graph w = (kernel_to_image w, image_to_kernel w)
-
-    -- vectors with one upper block
-    upper_same : (v x y : List (Polynomial p n)) → length v ≡ m → (b : ℕ × Monomial n) → Upper b → val p n (m + c) o (v ++ x) b ≡ val p n (m + c) o (v ++ y) b
-    upper_same v x y f b up = elim (dec_lt b.0 (m + c)) [
-      | no nb ↦ val_outside p n (m + c) o (v ++ x) b nb ∙ sym (val_outside p n (m + c) o (v ++ y) b nb)
-      | yes l ↦
-          let inside : (m + c) - suc b.0 < m + c = omega arith in
-          let i : (m + c) - suc b.0 < length v = omega (arith, up, l, f) in
-          let level : (m + c) - suc ((m + c) - suc b.0) ≡ b.0 = omega arith in
-          subst (λ k. val p n (m + c) o (v ++ x) (k, b.1) ≡ val p n (m + c) o (v ++ y) (k, b.1)) level
-            (val_component (m + c) (v ++ x) ((m + c) - suc b.0) b.1 inside
-            ∙ ap (λ g. coeff g b.1.exponents) (component_left P PL v x ((m + c) - suc b.0) i ∙ sym (component_left P PL v y ((m + c) - suc b.0) i))
-            ∙ sym (val_component (m + c) (v ++ y) ((m + c) - suc b.0) b.1 inside))
-    ]
-
-    -- a falling list whose head is not in the upper block is zero there
-    upper_of_rest : (r : List Term) → IsFalling p n (m + c) o r → ((s : Term) (rs : List Term) (f : IsFalling p n (m + c) o (s ∷ rs)) → r ≡ s ∷ rs → ¬ (Upper (head_place p n (m + c) o (s ∷ rs) f)))
-        → (b : ℕ × Monomial n) → Upper b → V p n (m + c) o r b ≡ (gf p).zero
-    upper_of_rest [] f low b up = val_nil p n (m + c) o b
-    upper_of_rest (s ∷ rs) f low b up = (head_of_terms p n (m + c) o s rs f).1 b (inl (lower_level (head_place p n (m + c) o (s ∷ rs) f) b (low s rs f refl) up))
 
     -- ---- the image
     module _ (ms : List (List Term)) (falling : (x : List Term) → Contains ms x → IsFalling p n (m + c) o x) (basis : IsGraphBasis p n o A (vectors_of p n (m + c) ms))
@@ -253,7 +187,7 @@ module _ (p : Prime) (n : ℕ) (o : Order) where
           let d = image_vector p n (m + c) o graph_columns difference_span in
           let u = graph_to d.0 d.1 in
           (u.0, (u.1, λ i h. ap (λ x. component P x i) (sym is)
-            ∙ component_sum (m + c) (vector_of p n (m + c) t) (vector_of p n (m + c) r) d.0
+            ∙ component_sum p n o (m + c) (vector_of p n (m + c) t) (vector_of p n (m + c) r) d.0
                 (λ b. sum_back (gf_laws p) (V p n (m + c) o r b) (V p n (m + c) o t b) ∙ ap ((gf p).add (V p n (m + c) o r b)) (d.2 b)) i h
             ∙ ap (λ x. P.add (component P (vector_of p n (m + c) r) i) (component P x i)) u.2))
 
@@ -303,7 +237,7 @@ module _ (p : Prime) (n : ℕ) (o : Order) where
         y_upper : (b : ℕ × Monomial n) → Upper b → Y b ≡ V p n (m + c) o r b
         unfolding Y
         y_upper b up = ap ((gf p).add ((gf p).mul ((gf p).neg (gf p).one) ((gf p).add ((gf p).mul ((gf p).neg (gf p).one) (V p n (m + c) o r b)) (V p n (m + c) o t b))))
-              (upper_same v x (zero_vector p n c) fits b up ∙ ap (λ u. U u b) (sym is))
+              (upper_same p n o m c v x (zero_vector p n c) fits b up ∙ ap (λ u. U u b) (sym is))
             ∙ sym (diff_back (gf_laws p) (V p n (m + c) o r b) (V p n (m + c) o t b))
 
         head_low : (s : Term) (rs : List Term) (f : IsFalling p n (m + c) o (s ∷ rs)) → r ≡ s ∷ rs → ¬ (Upper (head_place p n (m + c) o (s ∷ rs) f))
@@ -321,7 +255,7 @@ module _ (p : Prime) (n : ℕ) (o : Order) where
             y_head = ((λ z. hd.0 (sym (y_upper (head_place p n (m + c) o (s ∷ rs) f) up) ∙ z)), λ b l. y_upper b (level_up b l) ∙ hd.1 b l)
 
         pub rest_of_solution : vector_of p n (m + c) r ≡ zero_vector p n m ++ drop m (vector_of p n (m + c) r)
-        rest_of_solution = below_of_upper (vector_of p n (m + c) r) (length_vector p n (m + c) o r) (upper_of_rest r (reduces_falling p n (m + c) o red falls) head_low)
+        rest_of_solution = below_of_upper p n o m c (vector_of p n (m + c) r) (length_vector p n (m + c) o r) (upper_of_rest p n o m c r (reduces_falling p n (m + c) o red falls) head_low)
 
       -- v is in the image exactly where the upper block of an irreducible rest is zero
       pub image_of_graph : IsIrreducible ms r → InImage p n A v ↔ (w : List (Polynomial p n)) × (vector_of p n (m + c) r ≡ zero_vector p n m ++ w)

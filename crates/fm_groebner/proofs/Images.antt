@@ -1,20 +1,20 @@
 -- The image of a matrix is the span of its columns.
-use Rattle.std.proofs.Common.{ℕ, zero, suc, ◌+◌, ◌-◌, ◌<◌, ◌≤◌, ◌≡◌, ◌≢◌, ◌⊎◌, inl, inr, List, [], ◌∷◌, length, get_or, refl, sym, ap, ap₂, ◌∙◌, subst, arith}
+use Rattle.std.proofs.Common.{ℕ, zero, suc, ◌-◌, ◌<◌, ◌≤◌, ◌≡◌, ◌≢◌, inl, inr, List, [], ◌∷◌, length, get_or, refl, sym, ap, ap₂, ◌∙◌, subst, arith}
 use Rattle.fm_tuple.specs.Tuple.{tuple_sum}
 use native.Mathlib.Decide.{dec_lt, ℕ_discrete}
 use Rattle.fm_algebra.specs.Ring.{Ring, IsRing}
 use Rattle.fm_algebra.specs.Poly.{Poly, coeff}
 use Rattle.fm_algebra.specs.PolyRing.{poly, multiple}
 use Rattle.fm_algebra.specs.Monomial.{monomial}
-use Rattle.fm_algebra.specs.FiniteSums.{finite_sum, below, last}
-use Rattle.fm_algebra.specs.Matrix.{Matrix, cols, component, entry, listed, apply, InListImage}
-use Rattle.fm_algebra.proofs.Algebra.{add_zero, add_mul, add_swap, mul_zero, zero_mul}
+use Rattle.fm_algebra.specs.FiniteSums.{finite_sum}
+use Rattle.fm_algebra.specs.Matrix.{Matrix, component, entry, listed, apply, InListImage}
+use Rattle.fm_algebra.proofs.Algebra.{add_swap, mul_zero, zero_mul}
 use Rattle.fm_algebra.proofs.FiniteSums.{sum_ext, sum_zero, sum_only}
 use Rattle.fm_algebra.proofs.Sums.{IsSum-tuple_sum, length_right, splits_same_if, splits_zero}
 use Rattle.fm_algebra.proofs.Tables.{length-listed, get_or-listed, length-apply}
 use Rattle.fm_algebra.proofs.PolyRing.{coeff_zero, coeff_add, coeff_mul, coeff_multiple, multiple_mul, poly_laws}
 use Rattle.fm_algebra.proofs.Monomial.{single_other, coeff_monomial, coeff_monomial_times, poly_induction}
-use Rattle.fm_groebner.proofs.Setting.{Setting, In, here, there, Vect, Lin, lin_zero, lin_gen, lin_comb, shift, Span}
+use Rattle.fm_groebner.proofs.Setting.{Setting, In, here, there, Vect, lin_zero, lin_gen, lin_comb, shift, Span}
 use Rattle.fm_groebner.proofs.Span.{lin_eq, shift_view, shift_eq}
 use Rattle.fm_groebner.proofs.Monomials.{Monomial, same_monomial, ◌·◌}
 use Rattle.fm_groebner.proofs.Places.{MonomialOrder, places, same_place}

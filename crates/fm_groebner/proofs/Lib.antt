@@ -18,6 +18,7 @@ pub mod Bases
 pub mod Membership
 pub mod Twists
 pub mod GraphMatrices
+pub mod Blocks
 pub mod Graphs
 pub mod NormalForms
 pub mod TermWords

@@ -1,9 +1,7 @@
 -- The members of a complete log of free steps are a Gröbner basis of the span of the inputs.
-use Rattle.std.proofs.Common.{◌≡◌, ◌≢◌, ◌⊎◌, inl, inr, ℕ, zero, suc, ◌+◌, ◌-◌, ◌<◌, ◌≤◌, Bool, List, [], ◌∷◌, ◌++◌, map, length, Contains, refl, sym, ap, ap₂, ◌∙◌, subst, arith}
+use Rattle.std.proofs.Common.{◌≡◌, inl, inr, ℕ, ◌-◌, ◌<◌, ◌≤◌, Bool, List, [], ◌∷◌, length, Contains, refl, sym, ap, ◌∙◌, subst, arith}
 use native.Mathlib.Decide.{ℕ_discrete, dec_lt}
-use Rattle.std.proofs.lemmas.Bool.{cases_order}
 use Rattle.fm_gfp.specs.declared.prime.Prime.{Prime}
-use Rattle.fm_tuple.specs.Tuple.{tuple_difference, tuple_maximum, TupleDivides}
 use Rattle.fm_mono.specs.declared.order.Order.{Order}
 use Rattle.fm_algebra.specs.Gf.{gf, gf_is_zero}
 use Rattle.fm_algebra.proofs.Gf.{gf_laws}
@@ -11,17 +9,17 @@ use Rattle.fm_groebner.specs.Terms.{Term, IsFalling, IsMonic, vector_of, vectors
 use Rattle.fm_groebner.specs.Logs.{IsNumber, Entry, ReducesBy, IsKept, dropped, kept, IsSVector, IsTreated, DividesLcm, FreeRun, begin, take_input, take_pair, skip_pair, IsComplete}
 use Rattle.fm_groebner.proofs.Setting as setting
 use Rattle.fm_groebner.proofs.Setting.{Vect, Family, In, in_map, lin_zero, lin_comb, shift, Representation, Low, Anywhere, Span, IsGroebner, Reduces, done, step, IsLcm, Good}
-use Rattle.fm_groebner.proofs.Algebra.{scale_only, mul_zero}
+use Rattle.fm_groebner.proofs.Algebra.{scale_only}
 use Rattle.fm_groebner.proofs.Span.{lin_eq, lin_nil, rep_member, shift_one, span_shift, span_member, rep_more, all_segment, below_segment}
 use Rattle.fm_groebner.proofs.Buchberger.{divides_common, good_self, good_sym, good_apart, good_chain, good_of_reduces, reduces_rep, reduces_in, s_vector_below}
 use Rattle.fm_groebner.proofs.Basis.{groebner_of_good_pairs, rest_of_span}
-use Rattle.fm_groebner.proofs.Monomials.{Monomial, ◌·◌, one, difference, maximum, times_comm, times_difference, lcm_left}
-use Rattle.fm_groebner.proofs.Places.{places, same_place, place_lcm, place_apart}
+use Rattle.fm_groebner.proofs.Monomials.{Monomial, one, difference, maximum, times_comm, times_difference, lcm_left}
+use Rattle.fm_groebner.proofs.Places.{same_place, place_lcm, place_apart}
 use Rattle.fm_groebner.proofs.Ordered.{ordered}
 use Rattle.fm_groebner.proofs.Images.{Values}
 use Rattle.fm_groebner.proofs.Numbers.{number_same, number_within, number_cases, contains_cases, in_of_number, in_of_map, number_of_in}
-use Rattle.fm_groebner.proofs.TermValues.{val, number, Fits, fits_of, place_of, all_fit, val_nil, val_scaled, val_append, val_multiple}
-use Rattle.fm_groebner.proofs.MonicLists.{T, V, head_place, MemberAt, member_at, Members, at_number, AllMonic, members_monic, taken_away, reduces_falling, reduces_of_by, kept_number, kept_length, kept_old, kept_member, kept_monic, kept_rep, kept_low, scaled_falling}
+use Rattle.fm_groebner.proofs.TermValues.{val, number, Fits, fits_of, all_fit, val_scaled, val_multiple}
+use Rattle.fm_groebner.proofs.MonicLists.{T, V, head_place, MemberAt, member_at, Members, at_number, AllMonic, members_monic, taken_away, reduces_falling, reduces_of_by, kept_number, kept_length, kept_old, kept_member, kept_monic, kept_rep, kept_low}
 
 module _ (p : Prime) (n m : ℕ) (o : Order) (inputs : List (List Term)) where
   abbrev X : setting.Setting

@@ -1,16 +1,15 @@
 -- An irreducible rest is zero exactly where the vector lies in the submodule.
-use Rattle.std.proofs.Common.{◌≡◌, ◌⊎◌, ◌↔◌, inl, inr, ℕ, zero, suc, ◌+◌, ◌-◌, ◌*◌, ◌%◌, ◌<◌, ◌≤◌, List, [], ◌∷◌, ◌++◌, map, length, Contains, refl, sym, ap, ap₂, ◌∙◌, subst, arith}
-use Rattle.fm_gfp.specs.Primes.{prime_value}
+use Rattle.std.proofs.Common.{◌≡◌, ◌⊎◌, ◌↔◌, inl, inr, ℕ, ◌-◌, List, [], ◌∷◌, Contains, refl, sym, ap, ◌∙◌, subst, arith}
 use Rattle.fm_gfp.specs.declared.prime.Prime.{Prime}
-use Rattle.fm_tuple.specs.Tuple.{tuple_difference, TupleDivides}
+use Rattle.fm_tuple.specs.Tuple.{TupleDivides}
 use Rattle.fm_mono.specs.declared.order.Order.{Order}
-use Rattle.fm_algebra.specs.Gf.{gf, gf_is_zero}
+use Rattle.fm_algebra.specs.Gf.{gf}
 use Rattle.fm_algebra.specs.PolynomialMatrices.{InImage}
-use Rattle.fm_algebra.specs.Polynomials.{Polynomial, polynomials}
+use Rattle.fm_algebra.specs.Polynomials.{Polynomial}
 use Rattle.fm_algebra.proofs.Gf.{gf_laws}
-use Rattle.fm_groebner.specs.Terms.{Term, TermDivides, IsFalling, vector_of, vectors_of}
+use Rattle.fm_groebner.specs.Terms.{Term, IsFalling, vector_of, vectors_of}
 use Rattle.fm_groebner.specs.Bases.{generators, IsGroebnerBasis}
-use Rattle.fm_groebner.specs.Logs.{IsNumber, ReducesBy, no_more, one_more, IsIrreducible}
+use Rattle.fm_groebner.specs.Logs.{ReducesBy, no_more, one_more, IsIrreducible}
 use Rattle.fm_groebner.proofs.Setting as setting
 use Rattle.fm_groebner.proofs.Setting.{Vect, In, in_map, shift, Divides, IsNil, Reduces, done, step}
 use Rattle.fm_groebner.proofs.Algebra.{mul_zero, neg_mul}

@@ -1,24 +1,21 @@
 -- Monic members as a family of vectors with heads, and reduction by them.
-use Rattle.std.proofs.Common.{◌≡◌, ◌≢◌, ◌⊎◌, inl, inr, ℕ, zero, suc, ◌+◌, ◌-◌, ◌*◌, ◌%◌, ◌<◌, ◌≤◌, Bool, List, [], ◌∷◌, ◌++◌, map, length, refl, sym, ap, ap₂, ◌∙◌, subst, arith, mod-eq_of_lt, Less}
-use Rattle.std.proofs.lemmas.Nat.{mul-mod_first, mul-mod_second}
-use native.Mathlib.Nat.{zero-mod}
+use Rattle.std.proofs.Common.{◌≡◌, inl, inr, ℕ, suc, ◌-◌, ◌*◌, ◌%◌, ◌<◌, ◌≤◌, Bool, List, [], ◌∷◌, ◌++◌, length, refl, sym, ap, ◌∙◌, subst, arith}
 use Rattle.fm_gfp.specs.Primes.{prime_value}
 use Rattle.fm_gfp.specs.declared.prime.Prime.{Prime}
-use Rattle.fm_tuple.specs.Tuple.{tuple_difference, TupleDivides}
 use Rattle.fm_mono.specs.declared.order.Order.{Order}
-use Rattle.fm_algebra.specs.Gf.{gf, gf_is_zero, Residue, same_residue, prime_positive}
+use Rattle.fm_algebra.specs.Gf.{gf}
 use Rattle.fm_algebra.proofs.Gf.{gf_laws}
-use Rattle.fm_groebner.specs.Terms.{Term, TermDivides, IsTerm, IsAboveFirst, IsFalling, IsMonic, vector_of, multiple_terms, scaled_term, scaled_terms}
+use Rattle.fm_groebner.specs.Terms.{Term, IsAboveFirst, IsFalling, IsMonic, vector_of, multiple_terms, scaled_term, scaled_terms}
 use Rattle.fm_groebner.specs.Logs.{IsNumber, ReducesBy, no_more, one_more, IsKept, dropped, kept}
 use Rattle.fm_groebner.proofs.Setting as setting
 use Rattle.fm_groebner.proofs.Setting.{Setting, Vect, Family, Lin, lin_zero, lin_gen, lin_comb, shift, Representation, Low, Anywhere, IsNil, Reduces, done, step}
-use Rattle.fm_groebner.proofs.Algebra.{add_zero, mul_zero, zero_mul, neg_mul, add_neg, add_left, scale_only}
-use Rattle.fm_groebner.proofs.Span.{lin_eq, lin_nil, rep_member, less_irrefl, below_segment, place_in, shift_one}
+use Rattle.fm_groebner.proofs.Algebra.{add_zero, mul_zero, neg_mul, add_left, scale_only}
+use Rattle.fm_groebner.proofs.Span.{lin_nil, rep_member, below_segment, place_in, shift_one}
 use Rattle.fm_groebner.proofs.Buchberger.{low_of_kept}
 use Rattle.fm_groebner.proofs.Monomials.{Monomial, same_monomial, one, ◌·◌, difference, times_comm, times_difference}
 use Rattle.fm_groebner.proofs.Places.{same_place}
 use Rattle.fm_groebner.proofs.Numbers.{number_same, number_left, number_last, number_cases}
-use Rattle.fm_groebner.proofs.TermValues.{S, val, terms_val, number, Fits, fits_of, place_of, AllFit, all_fit, val_nil, val_append, val_multiple, val_scaled, val_head, head_of_terms, number_nonzero, number_times}
+use Rattle.fm_groebner.proofs.TermValues.{S, val, terms_val, number, fits_of, place_of, AllFit, all_fit, val_nil, val_append, val_multiple, val_scaled, val_head, head_of_terms, number_nonzero, number_times}
 
 module _ (p : Prime) (n m : ℕ) (o : Order) where
   abbrev pub T : Setting

@@ -1,5 +1,5 @@
 -- Monomials in n variables: products, quotients and least common multiples by exponents.
-use Rattle.std.proofs.Common.{ℕ, zero, suc, ◌+◌, ◌-◌, ◌<◌, ◌≤◌, ◌≡◌, ◌⊎◌, inl, inr, max, List, [], ◌∷◌, length, replicate, refl, sym, ap, ap₂, ◌∙◌, arith}
+use Rattle.std.proofs.Common.{ℕ, zero, suc, ◌+◌, ◌-◌, ◌<◌, ◌≤◌, ◌≡◌, max, List, [], ◌∷◌, length, replicate, refl, sym, ap, ap₂, ◌∙◌, arith}
 use native.Mathlib.Nat.{ℕ_set}
 use native.Mathlib.Decide.{dec_lt}
 use mathlib.Core.HLevel.{Σ_prop_path}

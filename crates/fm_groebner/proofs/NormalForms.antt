@@ -1,5 +1,5 @@
 -- Each vector of polynomials has one falling list of terms.
-use Rattle.std.proofs.Common.{◌≡◌, ◌⊎◌, inl, inr, ℕ, zero, suc, ◌+◌, ◌-◌, ◌*◌, ◌%◌, ◌^◌, ◌<◌, ◌≤◌, Bool, true, false, cond, eqb, List, [], ◌∷◌, ◌++◌, map, length, refl, sym, ap, ap₂, ◌∙◌, subst, arith, mod-eq_of_lt, Less}
+use Rattle.std.proofs.Common.{◌≡◌, ◌⊎◌, inl, inr, ℕ, suc, ◌-◌, ◌^◌, ◌<◌, Bool, true, false, cond, eqb, List, [], ◌∷◌, map, length, refl, sym, ap, ap₂, ◌∙◌, subst, arith, mod-eq_of_lt}
 use Rattle.std.proofs.lemmas.List.{length-map}
 use mathlib.Core.WellFounded.{Acc}
 use native.Mathlib.Decide.{dec_lt, ℕ_discrete}
@@ -8,29 +8,28 @@ use Rattle.fm_gfp.specs.declared.prime.Prime.{Prime}
 use Rattle.fm_tuple.specs.Tuple.{tuple_multiple}
 use Rattle.fm_tuple.proofs.Tuples.{length_tuple_multiple}
 use Rattle.fm_mono.specs.declared.order.Order.{Order}
-use Rattle.fm_algebra.specs.Ring.{IsRing}
 use Rattle.fm_algebra.specs.Gf.{gf, gf_is_zero, same_residue}
-use Rattle.fm_algebra.specs.Matrix.{component, listed}
+use Rattle.fm_algebra.specs.Matrix.{component}
 use Rattle.fm_algebra.specs.Polynomials.{Polynomial, polynomials, polynomial_of, frobenius_twist}
 use Rattle.fm_algebra.specs.PolynomialMatrices.{vector_twist}
 use Rattle.fm_algebra.proofs.Algebra.{add_cancel}
 use Rattle.fm_algebra.proofs.Gf.{gf_laws}
-use Rattle.fm_algebra.proofs.Tables.{length-listed, get_or-listed}
+use Rattle.fm_algebra.proofs.Tables.{get_or-listed}
 use Rattle.fm_algebra.proofs.Concrete.{polynomials_laws}
 use Rattle.fm_algebra.proofs.TwistWords.{twist_of_terms}
 use Rattle.fm_groebner.specs.Terms.{Term, IsTerm, IsAboveFirst, IsFalling, terms_in, vector_of, twisted_term, twisted_terms}
 use Rattle.fm_groebner.specs.Bases.{IsHead}
 use Rattle.fm_groebner.proofs.Setting as setting
 use Rattle.fm_groebner.proofs.Setting.{Vect, In, here, there, IsFinite, IsNil}
-use Rattle.fm_groebner.proofs.Algebra.{diff_self, skip_zero, sum_back, mul_zero}
-use Rattle.fm_groebner.proofs.Span.{head_one, head_eq, head_of_finite, below_segment, place_in, less_irrefl, not_less_of_same}
+use Rattle.fm_groebner.proofs.Algebra.{diff_self, skip_zero, sum_back}
+use Rattle.fm_groebner.proofs.Span.{head_one, head_eq, head_of_finite, below_segment, place_in, not_less_of_same}
 use Rattle.fm_groebner.proofs.Monomials.{Monomial, same_monomial}
 use Rattle.fm_groebner.proofs.Places.{same_place}
 use Rattle.fm_groebner.proofs.Ordered.{ordered}
 use Rattle.fm_groebner.proofs.PlaceOrder.{cmp_of_less}
 use Rattle.fm_groebner.proofs.Values.{value_finite, same_vector}
 use Rattle.fm_groebner.proofs.Heads.{head_from, zero_of_number}
-use Rattle.fm_groebner.proofs.TermValues.{val, fits_of, place_of, Fits, number, val_cons, val_nil, val_at, val_other, val_outside, val_head, head_of_terms, empty_of_nil, number_nonzero}
+use Rattle.fm_groebner.proofs.TermValues.{val, fits_of, place_of, Fits, number, val_cons, val_nil, val_at, val_other, val_outside, val_head, head_of_terms, empty_of_nil}
 use Rattle.fm_groebner.proofs.MonicLists.{T, V, head_place}
 use Rattle.fm_groebner.proofs.Bases.{length_vector}
 use Rattle.fm_groebner.proofs.GraphMatrices.{same_components}

@@ -1,5 +1,5 @@
 -- Elements of lists by their numbers, counted from 1, and membership.
-use Rattle.std.proofs.Common.{◌≡◌, ◌⊎◌, inl, inr, ℕ, zero, suc, ◌+◌, ◌<◌, ◌≤◌, List, [], ◌∷◌, ◌++◌, map, length, Contains, slice_index_or, refl, sym, ap, ◌∙◌, subst, arith}
+use Rattle.std.proofs.Common.{◌≡◌, ◌⊎◌, inl, inr, ℕ, zero, suc, ◌<◌, ◌≤◌, List, [], ◌∷◌, ◌++◌, map, length, Contains, refl, ap, subst, arith}
 use Rattle.fm_groebner.specs.Logs.{IsNumber, first, next}
 use Rattle.fm_groebner.proofs.Setting.{In, here, there}
 

@@ -1,9 +1,7 @@
 -- The monomial orders as orders of the monomials in n variables.
-use Rattle.std.proofs.Common.{ℕ, ◌≡◌, List, length, refl, sym, ap, ◌∙◌, subst, Ordering, Less, Equal, Greater}
+use Rattle.std.proofs.Common.{ℕ, ◌≡◌, length, refl, sym, ap, ◌∙◌, Ordering, Less, Equal, Greater}
 use Rattle.std.specs.Ordering.{ordering_reverse}
 use mathlib.Core.WellFounded.{Acc}
-use native.Mathlib.Nat.{ℕ_set}
-use Rattle.fm_tuple.specs.Tuple.{tuple_sum}
 use Rattle.fm_mono.specs.Orders.{monomial_cmp}
 use Rattle.fm_mono.specs.declared.order.Order.{Order}
 use Rattle.fm_mono.proofs.OrderLaws.{monomial_cmp_exact, monomial_cmp_sum, monomial_cmp_trans, monomial_cmp_flip}

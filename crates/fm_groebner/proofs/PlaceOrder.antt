@@ -1,5 +1,5 @@
 -- Position over term on components counted from 1, and on places.
-use Rattle.std.proofs.Common.{ℕ, zero, suc, ◌+◌, ◌-◌, ◌<◌, ◌≤◌, ◌≡◌, ◌⊎◌, inl, inr, List, length, refl, sym, ap, ap₂, ◌∙◌, subst, arith, Ordering, Less, Equal, Greater, nat_cmp}
+use Rattle.std.proofs.Common.{ℕ, ◌-◌, ◌<◌, ◌≤◌, ◌≡◌, inl, inr, List, sym, ap, ◌∙◌, arith, Less, Equal, Greater}
 use Rattle.std.specs.Ordering.{ordering_then, ordering_reverse}
 use Rattle.std.specs.Cmp.{nat_cmp_is}
 use native.Mathlib.Decide.{dec_lt}
@@ -7,7 +7,6 @@ use Rattle.fm_mono.specs.Orders.{monomial_cmp}
 use Rattle.fm_mono.specs.declared.order.Order.{Order}
 use Rattle.fm_mono.proofs.OrderLaws.{monomial_cmp_flip}
 use Rattle.fm_groebner.specs.Terms.{place_cmp}
-use Rattle.fm_groebner.proofs.Setting.{Trichotomy, below, same, above}
 use Rattle.fm_groebner.proofs.Monomials.{Monomial}
 use Rattle.fm_groebner.proofs.Places.{PlaceLess}
 use Rattle.fm_groebner.proofs.Ordered.{ordered}

@@ -1,12 +1,12 @@
 -- Places of vectors: a component, counted from the last one, which is 0, and a monomial. A greater number is a smaller component, so it is greater.
 -- In this form position over term is well founded with no bound on the components.
-use Rattle.std.proofs.Common.{ℕ, zero, suc, ◌+◌, ◌<◌, ◌≤◌, ◌≡◌, ◌⊎◌, inl, inr, Option, Some, None, refl, sym, ap, ap₂, ◌∙◌, subst, arith}
+use Rattle.std.proofs.Common.{ℕ, zero, suc, ◌<◌, ◌≡◌, ◌⊎◌, inl, inr, Option, Some, None, refl, sym, ap, ◌∙◌, subst, arith}
 use mathlib.Core.WellFounded.{Acc}
 use native.Mathlib.Decide.{dec_lt}
 use Rattle.fm_tuple.specs.Tuple.{TupleDivides}
 use Rattle.fm_algebra.specs.Ring.{Ring, IsRing}
 use Rattle.fm_groebner.proofs.Setting.{Setting, Trichotomy, below, same, above, IsLcm}
-use Rattle.fm_groebner.proofs.Monomials.{Monomial, same_monomial, divides_dec, one, ◌·◌, difference, maximum, one_times, times_comm, times_assoc, times_cancel, times_difference, divides_times, lcm_meets, lcm_least}
+use Rattle.fm_groebner.proofs.Monomials.{Monomial, divides_dec, one, ◌·◌, difference, maximum, one_times, times_comm, times_assoc, times_cancel, times_difference, divides_times, lcm_meets, lcm_least}
 
 -- a well-founded total order of the monomials in n variables that respects products
 pub record MonomialOrder (n : ℕ) : Type 1 where

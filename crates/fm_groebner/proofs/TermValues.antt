@@ -1,33 +1,31 @@
 -- The vectors of lists of terms: sums, multiples and heads.
-use Rattle.std.proofs.Common.{ℕ, zero, suc, ◌+◌, ◌-◌, ◌*◌, ◌%◌, ◌<◌, ◌≤◌, ◌≡◌, ◌≢◌, ◌⊎◌, inl, inr, Bool, true, false, cond, eqb, List, [], ◌∷◌, ◌++◌, map, length, refl, sym, ap, ap₂, ◌∙◌, subst, arith, Less, mod-eq_of_lt}
+use Rattle.std.proofs.Common.{ℕ, suc, ◌-◌, ◌*◌, ◌%◌, ◌<◌, ◌≤◌, ◌≡◌, ◌≢◌, ◌⊎◌, inl, inr, Bool, true, false, cond, eqb, List, [], ◌∷◌, ◌++◌, length, refl, sym, ap, ap₂, ◌∙◌, subst, arith, mod-eq_of_lt}
 use Rattle.std.proofs.lemmas.Bool.{eq-eqb, ne_eqb}
 use Rattle.std.proofs.lemmas.Nat.{mul-mod_first, mul-mod_second}
 use native.Mathlib.Nat.{zero-mod}
 use native.Mathlib.Decide.{dec_lt, ℕ_discrete}
 use Rattle.fm_gfp.specs.Primes.{prime_value}
 use Rattle.fm_gfp.specs.declared.prime.Prime.{Prime}
-use Rattle.fm_tuple.specs.Tuple.{tuple_sum}
 use Rattle.fm_mono.specs.declared.order.Order.{Order}
-use Rattle.fm_algebra.specs.Ring.{Ring, IsRing}
-use Rattle.fm_algebra.specs.Gf.{gf, gf_is_zero, Residue, residue, same_residue, prime_positive}
-use Rattle.fm_algebra.specs.Poly.{Poly, coeff}
-use Rattle.fm_algebra.specs.PolyRing.{poly}
+use Rattle.fm_algebra.specs.Ring.{Ring}
+use Rattle.fm_algebra.specs.Gf.{gf, gf_is_zero, residue, same_residue, prime_positive}
+use Rattle.fm_algebra.specs.Poly.{coeff}
 use Rattle.fm_algebra.specs.Monomial.{single}
-use Rattle.fm_algebra.specs.Matrix.{component, listed}
+use Rattle.fm_algebra.specs.Matrix.{component}
 use Rattle.fm_algebra.specs.Polynomials.{Polynomial, polynomials, polynomial_of, polynomial_sum, polynomial_term, polynomial_zero}
 use Rattle.fm_algebra.proofs.Gf.{gf_laws}
 use Rattle.fm_algebra.proofs.PolyRing.{coeff_zero, coeff_add}
 use Rattle.fm_algebra.proofs.Monomial.{coeff_monomial_at, single_same, single_other}
-use Rattle.fm_algebra.proofs.Tables.{get_or-listed, length-listed}
+use Rattle.fm_algebra.proofs.Tables.{get_or-listed}
 use Rattle.fm_groebner.specs.Terms.{Term, IsTerm, IsAboveFirst, IsFalling, terms_in, vector_of, multiple_term, multiple_terms, scaled_term, scaled_terms}
 use Rattle.fm_groebner.proofs.Setting.{Setting, below, same, above, Vect, shift, IsHead, IsNil}
-use Rattle.fm_groebner.proofs.Algebra.{add_zero, mul_zero, neg_mul, skip_zero}
-use Rattle.fm_groebner.proofs.Span.{shift_view, shift_linear, shift_eq, at_injective, less_irrefl, not_less_of_same}
+use Rattle.fm_groebner.proofs.Algebra.{add_zero, mul_zero}
+use Rattle.fm_groebner.proofs.Span.{shift_view, shift_linear, at_injective, less_irrefl, not_less_of_same}
 use Rattle.fm_groebner.proofs.Monomials.{Monomial, same_monomial, ◌·◌}
-use Rattle.fm_groebner.proofs.Places.{MonomialOrder, places, same_place}
+use Rattle.fm_groebner.proofs.Places.{places, same_place}
 use Rattle.fm_groebner.proofs.Ordered.{ordered}
 use Rattle.fm_groebner.proofs.PlaceOrder.{less_of_cmp}
-use Rattle.fm_groebner.proofs.Values.{component_at, component_inside, value, value_is, value_outside}
+use Rattle.fm_groebner.proofs.Values.{component_inside, value, value_is, value_outside}
 
 module _ (p : Prime) (n m : ℕ) (o : Order) where
   abbrev pub K : Ring

@@ -1,21 +1,19 @@
 -- What joins and multiples of lists of terms mean, and the blocks of their vectors.
-use Rattle.std.proofs.Common.{◌≡◌, ◌⊎◌, ◌↔◌, inl, inr, ℕ, zero, suc, ◌+◌, ◌-◌, ◌*◌, ◌%◌, ◌<◌, ◌≤◌, Bool, true, false, cond, eqb, List, [], ◌∷◌, ◌++◌, map, length, replicate, drop, refl, sym, ap, ap₂, ◌∙◌, subst, arith, mod-eq_of_lt, mod-lt}
+use Rattle.std.proofs.Common.{◌≡◌, ℕ, zero, suc, ◌*◌, ◌%◌, ◌<◌, Bool, true, false, cond, eqb, List, [], ◌∷◌, ◌++◌, map, length, refl, sym, ap, ap₂, ◌∙◌, arith, mod-eq_of_lt, mod-lt}
 use native.Mathlib.Decide.{dec_lt}
 use Rattle.fm_gfp.specs.Primes.{prime_value}
 use Rattle.fm_gfp.specs.declared.prime.Prime.{Prime}
 use Rattle.fm_tuple.specs.Tuple.{tuple_sum}
 use Rattle.fm_mono.specs.declared.order.Order.{Order}
-use Rattle.fm_algebra.specs.Gf.{gf, prime_positive}
+use Rattle.fm_algebra.specs.Gf.{prime_positive}
 use Rattle.fm_algebra.specs.Matrix.{component}
-use Rattle.fm_algebra.specs.Polynomials.{Polynomial, polynomials, polynomial_zero, polynomial_of, polynomial_sum, polynomial_product, polynomial_term, AllFit}
+use Rattle.fm_algebra.specs.Polynomials.{polynomials, polynomial_zero, polynomial_of, polynomial_sum, polynomial_product, polynomial_term, AllFit}
 use Rattle.fm_algebra.proofs.Algebra.{mul_zero}
 use Rattle.fm_algebra.proofs.Concrete.{polynomials_laws}
 use Rattle.fm_algebra.proofs.TermWords.{of_append, of_modulo, term_times, shifted_terms}
-use Rattle.fm_algebra.proofs.Tables.{length-listed}
 use Rattle.std.proofs.Math.ListN.{get_or-eq_default}
-use Rattle.fm_groebner.specs.Terms.{Term, IsFalling, IsBelowBlock, terms_in, vector_of, multiple_term, multiple_terms}
+use Rattle.fm_groebner.specs.Terms.{Term, terms_in, vector_of, multiple_terms}
 use Rattle.fm_groebner.specs.Bases.{vector_component}
-use Rattle.fm_groebner.specs.Graphs.{zero_vector}
 use Rattle.fm_groebner.proofs.NormalForms.{component_of_vector}
 use Rattle.fm_groebner.proofs.Bases.{length_vector}
 

@@ -1,37 +1,34 @@
 -- The twist of a Gröbner basis is a Gröbner basis.
-use Rattle.std.proofs.Common.{◌≡◌, ◌⊎◌, inl, inr, ℕ, zero, suc, ◌+◌, ◌*◌, ◌^◌, ◌<◌, ◌≤◌, List, [], ◌∷◌, map, length, Contains, get_or, refl, sym, ap, ap₂, ◌∙◌, subst, arith, Greater, mul-le-mul_left}
+use Rattle.std.proofs.Common.{◌≡◌, ◌⊎◌, inl, inr, ℕ, zero, suc, ◌+◌, ◌*◌, ◌^◌, ◌<◌, ◌≤◌, List, [], ◌∷◌, map, length, get_or, sym, ap, ap₂, ◌∙◌, subst, arith, mul-le-mul_left}
 use native.Mathlib.Nat.{zero-mod}
 use Rattle.std.specs.Ordering.{nat_cmp, ordering_then}
 use Rattle.std.proofs.Math.ListN.{get_or-map}
 use Rattle.std.proofs.lemmas.List.{length-map}
-use native.Mathlib.Decide.{ℕ_discrete}
 use Rattle.fm_gfp.specs.Primes.{prime_value}
 use Rattle.fm_gfp.specs.declared.prime.Prime.{Prime}
-use Rattle.fm_tuple.specs.Tuple.{tuple_sum, tuple_multiple, TupleDivides}
-use Rattle.fm_tuple.proofs.Tuples.{length_tuple_multiple, length_tuple_sum}
-use Rattle.fm_mono.specs.Orders.{monomial_cmp}
+use Rattle.fm_tuple.specs.Tuple.{tuple_multiple, TupleDivides}
+use Rattle.fm_tuple.proofs.Tuples.{length_tuple_multiple}
 use Rattle.fm_mono.specs.declared.order.Order.{Order}
 use Rattle.fm_mono.proofs.OrderLaws.{monomial_cmp_sum, monomial_cmp_multiple}
 use Rattle.fm_algebra.specs.FiniteSums.{finite_sum}
-use Rattle.fm_algebra.specs.Matrix.{cols, component, entry, listed, apply}
-use Rattle.fm_algebra.specs.Twist.{tuple_place, tuple_quotient, tuple_remainder, AllBelow, Digits}
+use Rattle.fm_algebra.specs.Matrix.{component, entry, apply}
+use Rattle.fm_algebra.specs.Twist.{tuple_place, tuple_quotient, tuple_remainder, Digits}
 use Rattle.fm_algebra.specs.Polynomials.{Polynomial, polynomials, coefficient, polynomial_zero, frobenius_twist, frobenius_slice}
 use Rattle.fm_algebra.specs.PolynomialMatrices.{InImage, vector_twist}
-use Rattle.fm_algebra.proofs.FiniteSums.{sum_ext, sum_map, sum_cast}
-use Rattle.fm_algebra.proofs.Tables.{length-listed, get_or-listed, length-apply, vector_injective}
+use Rattle.fm_algebra.proofs.FiniteSums.{sum_map, sum_cast}
+use Rattle.fm_algebra.proofs.Tables.{get_or-listed, length-apply, vector_injective}
 use Rattle.fm_algebra.proofs.Slices.{slice_zero, twist_add, twist_mul, twist_zero}
-use Rattle.fm_algebra.proofs.TuplePlaces.{length_quotient, length_remainder, remainder_below, place_parts, length_place}
+use Rattle.fm_algebra.proofs.TuplePlaces.{length_quotient, length_remainder, remainder_below, place_parts}
 use Rattle.fm_algebra.proofs.Concrete.{polynomials_laws, polynomials_sliced, q_positive}
 use Rattle.fm_algebra.specs.Gf.{gf, gf_is_zero}
 use Rattle.fm_algebra.specs.Poly.{coeff}
 use Rattle.fm_algebra.proofs.Twist.{coeff_twist, twisted_at}
-use Rattle.fm_algebra.proofs.TwistWords.{twist_at_multiple, twist_elsewhere, slice_coefficient}
+use Rattle.fm_algebra.proofs.TwistWords.{twist_at_multiple, slice_coefficient}
 use Rattle.fm_groebner.specs.Terms.{place_cmp}
 use Rattle.fm_groebner.specs.Bases.{vector_component, IsHead, generators, HeadDivides, IsGroebnerBasis}
 use Rattle.fm_groebner.proofs.Numbers.{in_of_contains, contains_of_in, in_of_map}
 use Rattle.fm_groebner.proofs.Setting.{In, in_map}
 use Rattle.fm_groebner.proofs.Heads.{exponents_fit}
-use Rattle.fm_groebner.proofs.Monomials.{divides_sum}
 
 
 

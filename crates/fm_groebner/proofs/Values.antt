@@ -1,12 +1,11 @@
 -- Vectors of polynomials as functions from places to coefficients.
-use Rattle.std.proofs.Common.{ℕ, zero, suc, ◌+◌, ◌-◌, ◌<◌, ◌≤◌, ◌≡◌, ◌⊎◌, inl, inr, List, [], ◌∷◌, ◌++◌, map, length, refl, sym, ap, ap₂, ◌∙◌, subst, arith}
+use Rattle.std.proofs.Common.{ℕ, zero, suc, ◌-◌, ◌<◌, ◌≡◌, inl, inr, List, [], ◌∷◌, ◌++◌, map, length, refl, sym, ap, ◌∙◌, subst, arith}
 use native.Mathlib.Decide.{dec_lt, ℕ_discrete}
 use Rattle.fm_algebra.specs.Ring.{Ring, IsRing}
 use Rattle.fm_algebra.specs.Poly.{Poly, coeff, Among}
 use Rattle.fm_algebra.specs.PolyRing.{poly, support}
 use Rattle.fm_algebra.specs.Matrix.{component}
-use Rattle.fm_algebra.specs.Families.{vector}
-use Rattle.fm_algebra.proofs.Poly.{support_covers, coeff_fixed, same_at_tuples}
+use Rattle.fm_algebra.proofs.Poly.{support_covers, same_at_tuples}
 use Rattle.fm_algebra.proofs.PolyRing.{coeff_zero}
 use Rattle.fm_algebra.proofs.Tables.{vector_injective}
 use Rattle.fm_groebner.proofs.Setting.{Setting, In, here, there, in_left, in_right, in_map, Vect, IsFinite}
