@@ -22,3 +22,4 @@ pub mod Blocks
 pub mod Graphs
 pub mod NormalForms
 pub mod TermWords
+pub mod Reductions

@@ -64,7 +64,7 @@ module _ (p : Prime) (n m : ℕ) (o : Order) where
       same_number q = sym (mod-eq_of_lt f.0.4) ∙ ap (λ x. x.number) q ∙ mod-eq_of_lt g.0.4
 
   -- ---- at least one
-  Normal : Vect X → Type 0
+  abbrev pub Normal : Vect X → Type 0
   Normal u = (ts : List Term) × IsFalling p n m o ts × ((b : ℕ × Monomial n) → V p n m o ts b ≡ u b)
 
   above_first : (t : Term) (f : Fits p n m o t) (ts : List Term) → IsFalling p n m o ts → ((b : ℕ × Monomial n) → ¬ (X.Less b (place_of p n m o t f)) → V p n m o ts b ≡ (gf p).zero) → IsAboveFirst o t ts
@@ -131,13 +131,12 @@ module _ (p : Prime) (n m : ℕ) (o : Order) where
     remaining_below b h = place_in X (below_segment X a) remaining remaining_above b h.0
 
     with_first : Normal remaining → Normal u
-    unfolding Normal remaining
+    unfolding remaining
     with_first (ts, f, e) = (first_term ∷ ts,
         (is_term, above_first first_term term_fits ts f (λ b w. e b ∙ remaining_above b (λ l. w (subst (X.Less b) (sym term_place) l))), f),
         λ b. val_cons p n m o first_term ts b ∙ ap ((gf p).add (V p n m o (first_term ∷ []) b)) (e b) ∙ sym (sum_back (gf_laws p) (V p n m o (first_term ∷ []) b) (u b)))
 
   nil_normal : (u : Vect X) → IsNil X u → Normal u
-  unfolding Normal
   nil_normal u z = ([], tt, λ b. val_nil p n m o b ∙ sym (z b))
 
   normal_at : (a : ℕ × Monomial n) → Acc X.Less a → (u : Vect X) → ((b : ℕ × Monomial n) → ¬ (b.0 < m) → u b ≡ (gf p).zero) → IsFinite X u → setting.IsHead X u a → Normal u
@@ -146,7 +145,7 @@ module _ (p : Prime) (n m : ℕ) (o : Order) where
     | inr t ↦ normal_at t.0 (smaller t.0 (remaining_below u out fin a hd t.0 t.1)) (remaining u out fin a hd) (remaining_outside u out fin a hd) (remaining_finite u out fin a hd) t.1
   ])
 
-  normal_of : (u : Vect X) → ((b : ℕ × Monomial n) → ¬ (b.0 < m) → u b ≡ (gf p).zero) → IsFinite X u → Normal u
+  pub normal_of : (u : Vect X) → ((b : ℕ × Monomial n) → ¬ (b.0 < m) → u b ≡ (gf p).zero) → IsFinite X u → Normal u
   normal_of u out fin = elim (head_of_finite X fin) [
     | inl z ↦ nil_normal u z
     | inr t ↦ normal_at t.0 (X.founded t.0) u out fin t.1
@@ -154,7 +153,6 @@ module _ (p : Prime) (n m : ℕ) (o : Order) where
 
   -- each vector of polynomials is that of a falling list
   pub terms_of_vector : (v : List (Polynomial p n)) → length v ≡ m → (ts : List Term) × IsFalling p n m o ts × (vector_of p n m ts ≡ v)
-  unfolding Normal
   terms_of_vector v l =
       let ts = normal_of (val p n m o v) (λ b w. val_outside p n m o v b w) (value_finite (ordered o n) (gf p) (gf_laws p) (gf_is_zero p) m v) in
       (ts.0, ts.1, same_vector (ordered o n) (gf p) (gf_laws p) (gf_is_zero p) m (vector_of p n m ts.0) v (length_vector p n m o ts.0) l ts.2)
