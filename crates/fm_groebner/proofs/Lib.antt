@@ -23,3 +23,4 @@ pub mod Graphs
 pub mod NormalForms
 pub mod TermWords
 pub mod Reductions
+pub mod Consequences

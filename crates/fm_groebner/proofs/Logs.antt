@@ -40,7 +40,7 @@ module _ (p : Prime) (n m : ℕ) (o : Order) (inputs : List (List Term)) where
     covered : (k : ℕ) (v : List Term) → Contains taken k → IsNumber inputs k v → Representation X (Members p n m o ms) (Anywhere X) (V p n m o v)
     good : (a b : ℕ) → Contains treated (a, b) → (a ≤ length ms) × (b ≤ length ms) × GoodAt ms a b
 
-  input_span : {k : ℕ} {v : List Term} → IsNumber inputs k v → Span X Inputs (V p n m o v)
+  pub input_span : {k : ℕ} {v : List Term} → IsNumber inputs k v → Span X Inputs (V p n m o v)
   input_span {k} {v} i = span_member X (vector_of p n m v, in_map (vector_of p n m) (in_of_number i), λ b. refl)
 
   reduces_from : {G : Family X} {u v r : Vect X} → ((b : ℕ × Monomial n) → u b ≡ v b) → Reduces X G v r → Reduces X G u r
@@ -122,7 +122,7 @@ module _ (p : Prime) (n m : ℕ) (o : Order) (inputs : List (List Term)) where
                 (difference (maximum left right) left) (difference (maximum left right) right) (a, member_at ft mt i) (b, member_at fu mu j) heads_lcm.meets)))
 
     -- the S-vector lies in the span
-    s_vector_span : {ms : List (List Term)} {v : List Term} {a b : ℕ} → ((g : Vect X) (h : ℕ × Monomial n) → Members p n m o ms g h → Span X Inputs g) → IsMonic (t ∷ ts) → IsMonic (u ∷ us)
+    pub s_vector_span : {ms : List (List Term)} {v : List Term} {a b : ℕ} → ((g : Vect X) (h : ℕ × Monomial n) → Members p n m o ms g h → Span X Inputs g) → IsMonic (t ∷ ts) → IsMonic (u ∷ us)
         → IsNumber ms a (t ∷ ts) → IsNumber ms b (u ∷ us) → IsSVector p n m o t u ts us v → Span X Inputs (V p n m o v)
     s_vector_span {v = v} {a = a} {b = b} members mt mu i j sv =
         lin_comb ((gf p).neg (gf p).one)
@@ -257,7 +257,7 @@ module _ (p : Prime) (n m : ℕ) (o : Order) (inputs : List (List Term)) where
       ]
     ]
 
-  inputs_covered : {ms : List (List Term)} {taken : List ℕ} {treated : List (ℕ × ℕ)} → Invariant ms taken treated → IsComplete p n m o inputs ms taken treated
+  inputs_covered : {ms : List (List Term)} {taken : List ℕ} {treated : List (ℕ × ℕ)} → Invariant ms taken treated → IsComplete inputs ms taken treated
       → (g : Vect X) → Inputs g → Representation X (Members p n m o ms) (Anywhere X) g
   inputs_covered inv complete g (v, i, e) =
       let x = in_of_map (vector_of p n m) inputs i in
@@ -265,7 +265,7 @@ module _ (p : Prime) (n m : ℕ) (o : Order) (inputs : List (List Term)) where
       lin_eq X (inv.covered k.0 x.0 (complete.all_taken k.0 x.0 k.1) k.1) (λ b. e b ∙ ap (λ u. val p n m o u b) (sym x.2))
 
   -- the members of a complete log are monic, and a Gröbner basis of the span of the inputs
-  pub groebner_of_log : {log : List Entry} {ms : List (List Term)} {taken : List ℕ} {treated : List (ℕ × ℕ)} → FreeRun p n m o inputs log ms taken treated → IsComplete p n m o inputs ms taken treated
+  pub groebner_of_log : {log : List Entry} {ms : List (List Term)} {taken : List ℕ} {treated : List (ℕ × ℕ)} → FreeRun p n m o inputs log ms taken treated → IsComplete inputs ms taken treated
       → AllMonic p n m o ms × IsGroebner X (Members p n m o ms) Inputs
   groebner_of_log run complete =
       let inv = invariant_of_run run in

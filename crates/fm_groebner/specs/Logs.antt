@@ -37,6 +37,12 @@ IsTreated treated a b = Contains treated (a, b) ⊎ Contains treated (b, a)
 abbrev pub DividesLcm : Term → Term → Term → Type 0
 DividesLcm f t u = (t.component ≡ u.component) × (f.component ≡ t.component) × TupleDivides f.exponents (tuple_maximum t.exponents u.exponents)
 
+-- all inputs were taken, and all pairs of members with heads in one component were treated
+pub record IsComplete (inputs members : List (List Term)) (taken : List ℕ) (treated : List (ℕ × ℕ)) : Type 0 where
+  pub all_taken : (k : ℕ) (v : List Term) → IsNumber inputs k v → Contains taken k
+  pub all_treated : (a b : ℕ) (t u : Term) (ts us : List Term) → a < b → IsNumber members a (t ∷ ts) → IsNumber members b (u ∷ us)
+      → t.component ≡ u.component → Contains treated (a, b)
+
 module _ (p : Prime) where
   -- what becomes of a rest: one that is zero is dropped; another, made monic, is the next member
   pub data IsKept (members : List (List Term)) : Bool → List Term → List (List Term) → Type 0 where
@@ -74,9 +80,3 @@ module _ (p : Prime) (n m : ℕ) (o : Order) where
         → FreeRun inputs log members taken treated → (a b k : ℕ) → a < b → k ≢ a → k ≢ b → ¬ (Contains treated (a, b))
         → IsNumber members a (t ∷ ts) → IsNumber members b (u ∷ us) → IsNumber members k (f ∷ fs) → DividesLcm f t u → IsTreated treated a k → IsTreated treated k b
         → FreeRun inputs (log ++ record { start = Skip a b k; by = []; keep = false } ∷ []) members taken ((a, b) ∷ treated)
-
-  -- all inputs were taken, and all pairs of members with heads in one component were treated
-  pub record IsComplete (inputs members : List (List Term)) (taken : List ℕ) (treated : List (ℕ × ℕ)) : Type 0 where
-    pub all_taken : (k : ℕ) (v : List Term) → IsNumber inputs k v → Contains taken k
-    pub all_treated : (a b : ℕ) (t u : Term) (ts us : List Term) → a < b → IsNumber members a (t ∷ ts) → IsNumber members b (u ∷ us)
-        → t.component ≡ u.component → Contains treated (a, b)
