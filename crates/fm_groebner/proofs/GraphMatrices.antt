@@ -1,14 +1,15 @@
 -- A matrix above the unit matrix, and blocks of vectors.
-use Rattle.std.proofs.Common.{◌≡◌, ℕ, ◌+◌, ◌-◌, ◌<◌, cond, eqb, ltb, List, [], ◌∷◌, ◌++◌, map, length, replicate, get_or, drop, refl, sym, ap, ap₂, ◌∙◌, subst, arith}
+use Rattle.std.proofs.Common.{◌≡◌, ℕ, ◌+◌, ◌-◌, ◌<◌, Bool, true, false, cond, eqb, ltb, List, [], ◌∷◌, ◌++◌, map, length, replicate, get_or, drop, refl, sym, ap, ap₂, ◌∙◌, subst, arith}
+use Rattle.std.proofs.Math.ListN.{get_or-map as get_or-map-any}
 use Rattle.std.proofs.lemmas.Bool.{lt-ltb, le-ltb}
-use Rattle.std.proofs.lemmas.List.{get_or-map, get_or_append_left, get_or-append-add, get_or-replicate, get_or-drop, length-append, length-map, length-replicate, length-drop}
+use Rattle.std.proofs.lemmas.List.{ext_get_or, get_or-map, get_or_append_left, get_or-append-add, get_or-replicate, get_or-drop, length-append, length-map, length-replicate, length-drop}
 use native.Mathlib.Decide.{dec_lt}
 use Rattle.fm_algebra.specs.Ring.{Ring, IsRing}
 use Rattle.fm_algebra.specs.FiniteSums.{finite_sum}
-use Rattle.fm_algebra.specs.Matrix.{Matrix, cols, component, entry, apply, table, stacked, unit_matrix, scalar_matrix}
+use Rattle.fm_algebra.specs.Matrix.{Matrix, cols, component, entry, listed, apply, table, stacked, unit_matrix, scalar_matrix, entrywise}
 use Rattle.fm_algebra.proofs.Algebra.{zero_mul}
 use Rattle.fm_algebra.proofs.FiniteSums.{sum_zero, sum_only, sum_cast, where_same, where_other}
-use Rattle.fm_algebra.proofs.Tables.{get_or-listed, entry_table, length-apply, vector_injective, cols_table}
+use Rattle.fm_algebra.proofs.Tables.{length-listed, get_or-listed, entry_table, length-apply, vector_injective, cols_table, rows_table}
 
 -- two joins whose first parts have one length
 pub append_injective : {A : Type 0} (u u' v v' : List A) → length u ≡ length u' → u ++ v ≡ u' ++ v' → (u ≡ u') × (v ≡ v')
@@ -86,6 +87,11 @@ module _ (R : Ring) (L : IsRing R) where
       ∙ ap (λ x. entry R (unit_matrix R (cols R A)) x k) back
       ∙ entry_table R (cols R A) (cols R A) i k (λ i j. cond (eqb i j) 𝟙 𝟘) h l
 
+    column_length : (k : ℕ) → k < cols R A → length (get_or graph_matrix.columns k []) ≡ A.rows + cols R A
+    unfolding stacked unit_matrix scalar_matrix table
+    column_length k l = ap length (get_or-listed (cols R A) k [] (λ j. listed (A.rows + cols R A) (λ i. cond (ltb i A.rows) (entry R A i j) (entry R (unit_matrix R (cols R A)) (i - A.rows) j))) l)
+        ∙ length-listed (A.rows + cols R A) (λ i. cond (ltb i A.rows) (entry R A i k) (entry R (unit_matrix R (cols R A)) (i - A.rows) k))
+
     -- its product with w is (A * w; w)
     pub graph_apply : (w : List Carrier) → length w ≡ cols R A → apply R graph_generated w ≡ apply R A w ++ w
     graph_apply w l = same_blocks A.rows (cols R A) (apply R graph_generated w) (apply R A w ++ w) (length-apply R graph_generated w)
@@ -139,3 +145,42 @@ module _ (R : Ring) (L : IsRing R) where
     where
       rest : length (drop m v) ≡ c
       rest = length-drop m v ∙ ap (λ x. x - m) l ∙ omega arith
+
+  -- ---- a map of the entries
+  module _ (A : Matrix R) (φ : Carrier → Carrier) (on_zero : φ 𝟘 ≡ 𝟘) (on_one : φ 𝟙 ≡ 𝟙) where
+    pub mapped_rows : (entrywise R φ A).rows ≡ A.rows
+    unfolding entrywise
+    mapped_rows = rows_table R A.rows (cols R A) (λ i j. φ (entry R A i j))
+
+    pub mapped_cols : cols R (entrywise R φ A) ≡ cols R A
+    unfolding entrywise
+    mapped_cols = cols_table R A.rows (cols R A) (λ i j. φ (entry R A i j))
+
+    mapped_entry : (i k : ℕ) → i < A.rows → k < cols R A → entry R (entrywise R φ A) i k ≡ φ (entry R A i k)
+    unfolding entrywise
+    mapped_entry i k h l = entry_table R A.rows (cols R A) i k (λ i j. φ (entry R A i j)) h l
+
+    column_component : (i k : ℕ) → component R (map φ (get_or (graph_matrix A).columns k [])) i ≡ φ (entry R (graph_generated A) i k)
+    unfolding component entry
+    column_component i k = ap (get_or (map φ (get_or (graph_matrix A).columns k [])) i) (sym on_zero) ∙ get_or-map-any φ (get_or (graph_matrix A).columns k []) i 𝟘
+
+    same_graph_column : (k : ℕ) → k < cols R A → map φ (get_or (graph_matrix A).columns k []) ≡ get_or (graph_matrix (entrywise R φ A)).columns k []
+    unfolding component entry
+    same_graph_column k l = same_blocks A.rows (cols R A) (map φ (get_or (graph_matrix A).columns k [])) (get_or (graph_matrix (entrywise R φ A)).columns k [])
+        (length-map (get_or (graph_matrix A).columns k []) φ ∙ column_length A k l)
+        (column_length (entrywise R φ A) k (subst (λ x. k < x) (sym mapped_cols) l) ∙ ap₂ (λ x y. x + y) mapped_rows mapped_cols)
+        (λ i h. column_component i k ∙ ap φ (entry_upper A i k h l) ∙ sym (mapped_entry i k h l)
+          ∙ sym (entry_upper (entrywise R φ A) i k (subst (λ x. i < x) (sym mapped_rows) h) (subst (λ x. k < x) (sym mapped_cols) l)))
+        (λ i h. column_component (A.rows + i) k ∙ ap φ (entry_lower A i k h l) ∙ on_cond (eqb i k)
+          ∙ sym (ap (λ x. entry R (graph_generated (entrywise R φ A)) (x + i) k) (sym mapped_rows)
+            ∙ entry_lower (entrywise R φ A) i k (subst (λ x. i < x) (sym mapped_cols) h) (subst (λ x. k < x) (sym mapped_cols) l)))
+      where
+        on_cond : (b : Bool) → φ (cond b 𝟙 𝟘) ≡ cond b 𝟙 𝟘
+        on_cond true = on_one
+        on_cond false = on_zero
+
+    -- the columns of the graph, mapped, are those of the graph of the mapped matrix
+    pub mapped_graph : map (map φ) (graph_matrix A).columns ≡ (graph_matrix (entrywise R φ A)).columns
+    mapped_graph = ext_get_or [] (map (map φ) (graph_matrix A).columns) (graph_matrix (entrywise R φ A)).columns
+        (length-map (graph_matrix A).columns (map φ) ∙ graph_cols A ∙ sym (graph_cols (entrywise R φ A) ∙ mapped_cols))
+        (λ k h. get_or-map-any (map φ) (graph_matrix A).columns k [] ∙ same_graph_column k (subst (λ x. k < x) (length-map (graph_matrix A).columns (map φ) ∙ graph_cols A) h))

@@ -14,10 +14,10 @@ use Rattle.fm_algebra.specs.FiniteSums.{finite_sum}
 use Rattle.fm_algebra.specs.Matrix.{component, entry, apply}
 use Rattle.fm_algebra.specs.Twist.{tuple_place, tuple_quotient, tuple_remainder, Digits}
 use Rattle.fm_algebra.specs.Polynomials.{Polynomial, polynomials, coefficient, polynomial_zero, frobenius_twist, frobenius_slice}
-use Rattle.fm_algebra.specs.PolynomialMatrices.{InImage, vector_twist}
+use Rattle.fm_algebra.specs.PolynomialMatrices.{PolynomialMatrix, InImage, vector_twist, matrix_twist, matrix_above, matrix_unit}
 use Rattle.fm_algebra.proofs.FiniteSums.{sum_map, sum_cast}
 use Rattle.fm_algebra.proofs.Tables.{get_or-listed, length-apply, vector_injective}
-use Rattle.fm_algebra.proofs.Slices.{slice_zero, twist_add, twist_mul, twist_zero}
+use Rattle.fm_algebra.proofs.Slices.{slice_zero, twist_one, twist_add, twist_mul, twist_zero}
 use Rattle.fm_algebra.proofs.TuplePlaces.{length_quotient, length_remainder, remainder_below, place_parts}
 use Rattle.fm_algebra.proofs.Concrete.{polynomials_laws, polynomials_sliced, q_positive}
 use Rattle.fm_algebra.specs.Gf.{gf, gf_is_zero}
@@ -25,6 +25,8 @@ use Rattle.fm_algebra.specs.Poly.{coeff}
 use Rattle.fm_algebra.proofs.Twist.{coeff_twist, twisted_at}
 use Rattle.fm_algebra.proofs.TwistWords.{twist_at_multiple, slice_coefficient}
 use Rattle.fm_groebner.specs.Terms.{place_cmp}
+use Rattle.fm_groebner.specs.Graphs.{graph, IsGraphBasis}
+use Rattle.fm_groebner.proofs.GraphMatrices.{mapped_graph, mapped_rows, mapped_cols}
 use Rattle.fm_groebner.specs.Bases.{vector_component, IsHead, generators, HeadDivides, IsGroebnerBasis}
 use Rattle.fm_groebner.proofs.Numbers.{in_of_contains, contains_of_in, in_of_map}
 use Rattle.fm_groebner.proofs.Setting.{In, in_map}
@@ -182,3 +184,23 @@ module _ (p : Prime) (n : ℕ) where
               divides = subst (TupleDivides (tuple_multiple q d.exponents)) (place_parts q a)
                 (multiple_divides d.exponents (tuple_quotient q a) (tuple_remainder q a) (l ∙ sym (length_quotient q a ∙ fits v i a hd)) (length_remainder q a ∙ sym (length_quotient q a)) d.divides);
             }
+
+-- ---- the graph of a twisted matrix
+module _ (p : Prime) (n : ℕ) (o : Order) (e : ℕ) (A : PolynomialMatrix p n) where
+  twisted_graph_columns : map (vector_twist p n e) (graph p n A).columns ≡ (graph p n (matrix_twist p n e A)).columns
+  unfolding vector_twist matrix_twist matrix_above matrix_unit
+  twisted_graph_columns = mapped_graph (polynomials p n) (polynomials_laws p n) A (frobenius_twist p n e)
+      (twist_zero (polynomials_laws p n) (polynomials_sliced p n e)) (twist_one (polynomials_laws p n) (polynomials_sliced p n e))
+
+  twisted_size : A.rows + length A.columns ≡ (matrix_twist p n e A).rows + length (matrix_twist p n e A).columns
+  unfolding matrix_twist
+  twisted_size = sym (ap₂ (λ x y. x + y)
+      (mapped_rows (polynomials p n) (polynomials_laws p n) A (frobenius_twist p n e) (twist_zero (polynomials_laws p n) (polynomials_sliced p n e)) (twist_one (polynomials_laws p n) (polynomials_sliced p n e)))
+      (mapped_cols (polynomials p n) (polynomials_laws p n) A (frobenius_twist p n e) (twist_zero (polynomials_laws p n) (polynomials_sliced p n e)) (twist_one (polynomials_laws p n) (polynomials_sliced p n e))))
+
+  -- the twist of a Gröbner basis of the graph of A is one of the graph of the twist of A
+  pub twisted_graph : (members : List (List (Polynomial p n))) → IsGraphBasis p n o A members → IsGraphBasis p n o (matrix_twist p n e A) (map (vector_twist p n e) members)
+  twisted_graph members basis =
+      subst (λ k. IsGroebnerBasis p n o k (map (vector_twist p n e) members) (graph p n (matrix_twist p n e A)).columns) twisted_size
+        (subst (λ cs. IsGroebnerBasis p n o (A.rows + length A.columns) (map (vector_twist p n e) members) cs) twisted_graph_columns
+          (groebner_of_twist p n (A.rows + length A.columns) e o members (graph p n A).columns basis))
