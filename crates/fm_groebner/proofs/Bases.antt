@@ -8,6 +8,7 @@ use Rattle.fm_algebra.specs.PolynomialMatrices.{InImage}
 use Rattle.fm_algebra.specs.Polynomials.{Polynomial, polynomials}
 use Rattle.fm_algebra.proofs.Gf.{gf_laws, gf_field}
 use Rattle.fm_algebra.proofs.Tables.{length-listed, length-apply}
+use Rattle.fm_groebner.proofs.Vectors.{length_vector}
 use Rattle.fm_groebner.specs.Terms.{Term, vector_of, vectors_of}
 use Rattle.fm_groebner.specs.Bases.{IsHead, generators, HeadDivides, IsGroebnerBasis}
 use Rattle.fm_groebner.proofs.Setting as setting
@@ -33,10 +34,6 @@ module _ (p : Prime) (n m : ℕ) (o : Order) where
   -- the vectors of the generators
   abbrev pub Generated : List (List (Polynomial p n)) → Vect X → Type 0
   Generated gens = Values (ordered o n) (gf p) (gf_laws p) (gf_is_zero p) m gens
-
-  pub length_vector : (ts : List Term) → length (vector_of p n m ts) ≡ m
-  unfolding vector_of
-  length_vector ts = length-listed m _
 
   pub image_length : (gens : List (List (Polynomial p n))) (v : List (Polynomial p n)) → InImage p n (generators p n m gens) v → length v ≡ m
   unfolding InImage
@@ -71,13 +68,13 @@ module _ (p : Prime) (n m : ℕ) (o : Order) where
             exponents = t.exponents;
             is_member = contains_of_in (in_map (vector_of p n m) (in_of_number j));
             is_head = subst (λ k. IsHead p n o (vector_of p n m (t ∷ ts)) k t.exponents) same
-              (head_from p n m o (vector_of p n m (t ∷ ts)) (length_vector (t ∷ ts)) t.component (head_place p n m o (t ∷ ts) f).1 ft.positive ft.within (head_of_terms p n m o t ts f));
+              (head_from p n m o (vector_of p n m (t ∷ ts)) (length_vector p n m (t ∷ ts)) t.component (head_place p n m o (t ∷ ts) f).1 ft.positive ft.within (head_of_terms p n m o t ts f));
             divides = subst (TupleDivides t.exponents) (ap (λ z. z.1.exponents) e)
               (subst (λ z. TupleDivides t.exponents z.exponents) (times_comm (head_place p n m o (t ∷ ts) f).1 b) (divides_times (head_place p n m o (t ∷ ts) f).1 b));
           }
 
   -- a basis of monic lists of terms is one of the vectors of polynomials
-  pub basis_of_members : (ms : List (List Term)) (gens : List (List (Polynomial p n))) → AllMonic p n m o ms → IsGroebner X (Members p n m o ms) (Generated gens) → IsGroebnerBasis p n o m (vectors_of p n m ms) gens
+  pub basis_of_members : (ms : List (List Term)) (gens : List (List (Polynomial p n))) → AllMonic p n m o ms → IsGroebner X (Members p n m o ms) (Generated gens) → IsGroebnerBasis p n m o (vectors_of p n m ms) gens
   basis_of_members ms gens well basis = record {
     inside = λ g c. inside g (in_of_map (vector_of p n m) ms (in_of_contains (vectors_of p n m ms) g c));
     heads = λ v i a im hd.
@@ -90,7 +87,7 @@ module _ (p : Prime) (n m : ℕ) (o : Order) where
           let k = number_of_in x.1 in
           let w = well k.0 x.0 k.1 in
           subst (InImage p n (generators p n m gens)) x.2
-            (image_of gens (vector_of p n m x.0) (length_vector x.0) (basis.members (V p n m o x.0) (head_place p n m o x.0 w.0) (k.0, member_at w.0 w.1 k.1)))
+            (image_of gens (vector_of p n m x.0) (length_vector p n m x.0) (basis.members (V p n m o x.0) (head_place p n m o x.0 w.0) (k.0, member_at w.0 w.1 k.1)))
 
   -- ---- from vectors of polynomials to functions
   -- the members, each divided by its leading coefficient
@@ -119,7 +116,7 @@ module _ (p : Prime) (n m : ℕ) (o : Order) where
       → (f : (gf p).Carrier) → (gf p).mul f (W v h) ≡ (gf p).one → Divided members (divided_by f v) h
   divide members v i h hd f e = record { vector = v; is_member = i; is_head = hd; factor = f; inverse = e; is = λ b. refl }
 
-  module _ (members gens : List (List (Polynomial p n))) (basis : IsGroebnerBasis p n o m members gens) where
+  module _ (members gens : List (List (Polynomial p n))) (basis : IsGroebnerBasis p n m o members gens) where
     divided_heads : (i : ℕ) (a : Monomial n) → i ≤ m → HeadDivides p n o members i a.exponents → Divides X (Divided members) (m - i, a)
     divided_heads i a within d =
         let l = image_length gens d.member (basis.inside d.member d.is_member) in

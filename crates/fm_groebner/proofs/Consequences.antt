@@ -10,6 +10,7 @@ use Rattle.fm_algebra.specs.PolynomialMatrices.{InImage}
 use Rattle.fm_algebra.proofs.Gf.{gf_laws}
 use Rattle.fm_algebra.proofs.PolynomialWords.{coefficient_zero}
 use Rattle.fm_algebra.proofs.Concrete.{polynomials_laws}
+use Rattle.fm_groebner.proofs.Vectors.{length_vector}
 use Rattle.fm_groebner.specs.Terms.{Term, IsFalling, IsMonic, IsBelowBlock, vector_of, vectors_of}
 use Rattle.fm_groebner.specs.Bases.{vector_component, generators, IsGroebnerBasis}
 use Rattle.fm_groebner.specs.Logs.{IsNumber, Entry, ReducesBy, IsIrreducible, IsSVector, FreeRun, IsComplete}
@@ -25,7 +26,7 @@ use Rattle.fm_groebner.proofs.Values.{value_finite}
 use Rattle.fm_groebner.proofs.Numbers.{in_of_contains, contains_of_in, in_of_number, number_of_in}
 use Rattle.fm_groebner.proofs.TermValues.{val}
 use Rattle.fm_groebner.proofs.MonicLists.{T, V, head_place, MemberAt, member_at, Members, AllMonic}
-use Rattle.fm_groebner.proofs.Bases.{Generated, Divided, divided_monic, groebner_of_basis, basis_of_members, span_of, image_of, image_length, length_vector}
+use Rattle.fm_groebner.proofs.Bases.{Generated, Divided, divided_monic, groebner_of_basis, basis_of_members, span_of, image_of, image_length}
 use Rattle.fm_groebner.proofs.Membership.{membership}
 use Rattle.fm_groebner.proofs.Logs.{groebner_of_log, groebner_of_s_vectors, s_vector_span, input_span}
 use Rattle.fm_groebner.proofs.Reductions.{reduction_exists, s_vector_exists}
@@ -38,7 +39,7 @@ module _ (p : Prime) (n m : ℕ) (o : Order) where
   X = T p n m o
 
   -- ---- a Gröbner basis generates
-  module _ (members gens : List (List (Polynomial p n))) (basis : IsGroebnerBasis p n o m members gens) where
+  module _ (members gens : List (List (Polynomial p n))) (basis : IsGroebnerBasis p n m o members gens) where
     generated_finite : (g : Vect X) → Generated p n m o gens g → IsFinite X g
     generated_finite g v = finite_eq X v.2 (value_finite (ordered o n) (gf p) (gf_laws p) (gf_is_zero p) m v.0)
 
@@ -61,7 +62,7 @@ module _ (p : Prime) (n m : ℕ) (o : Order) where
 
   -- ---- logs
   module _ {inputs ms : List (List Term)} {log : List Entry} {taken : List ℕ} {treated : List (ℕ × ℕ)} (run : FreeRun p n m o inputs log ms taken treated) (complete : IsComplete inputs ms taken treated) where
-    pub basis_of_log : IsGroebnerBasis p n o m (vectors_of p n m ms) (vectors_of p n m inputs)
+    pub basis_of_log : IsGroebnerBasis p n m o (vectors_of p n m ms) (vectors_of p n m inputs)
     basis_of_log = let r = groebner_of_log p n m o inputs run complete in basis_of_members p n m o ms (vectors_of p n m inputs) r.0 r.1
 
     pub members_of_log : (x : List Term) → Contains ms x → IsFalling p n m o x × IsMonic x
@@ -73,7 +74,7 @@ module _ (p : Prime) (n m : ℕ) (o : Order) where
     all_monic k x i = well x (contains_of_in (in_of_number i))
 
     pub criterion : ((a b : ℕ) (t u : Term) (ts us : List Term) → a < b → IsNumber ms a (t ∷ ts) → IsNumber ms b (u ∷ us) → t.component ≡ u.component
-        → (v : List Term) × (by : List ℕ) × IsSVector p n m o t u ts us v × ReducesBy p n m o ms by v []) → IsGroebnerBasis p n o m (vectors_of p n m ms) (vectors_of p n m ms)
+        → (v : List Term) × (by : List ℕ) × IsSVector p n m o t u ts us v × ReducesBy p n m o ms by v []) → IsGroebnerBasis p n m o (vectors_of p n m ms) (vectors_of p n m ms)
     criterion reduces = basis_of_members p n m o ms (vectors_of p n m ms) all_monic (groebner_of_s_vectors p n m o all_monic reduces)
 
     member_span : (k : ℕ) (g : Vect X) (h : ℕ × Monomial n) → MemberAt p n m o ms k g h → Span X (Generated p n m o (vectors_of p n m ms)) g
@@ -84,11 +85,11 @@ module _ (p : Prime) (n m : ℕ) (o : Order) where
     s_vector_inside a b t u ts us v i j sv =
         let wt = all_monic a (t ∷ ts) i in
         let wu = all_monic b (u ∷ us) j in
-        image_of p n m o (vectors_of p n m ms) (vector_of p n m v) (length_vector p n m o v)
+        image_of p n m o (vectors_of p n m ms) (vector_of p n m v) (length_vector p n m v)
           (s_vector_span p n m o ms t u ts us wt.0 wu.0 sv.one_component (λ g h k. member_span k.0 g h k.1) wt.1 wu.1 i j sv)
 
     -- where the members are a Gröbner basis of what they span, each S-vector reduces to zero, whatever the reduction
-    pub criterion_back : IsGroebnerBasis p n o m (vectors_of p n m ms) (vectors_of p n m ms) → (a b : ℕ) (t u : Term) (ts us v : List Term) (by : List ℕ) (r : List Term)
+    pub criterion_back : IsGroebnerBasis p n m o (vectors_of p n m ms) (vectors_of p n m ms) → (a b : ℕ) (t u : Term) (ts us v : List Term) (by : List ℕ) (r : List Term)
         → IsNumber ms a (t ∷ ts) → IsNumber ms b (u ∷ us) → IsSVector p n m o t u ts us v → ReducesBy p n m o ms by v r → IsIrreducible ms r → r ≡ []
     criterion_back basis a b t u ts us v by r i j sv red irreducible =
         (membership p n m o ms (λ x c. (well x c).0) (vectors_of p n m ms) basis red sv.falls irreducible).0 (s_vector_inside a b t u ts us v i j sv)
@@ -119,5 +120,5 @@ module _ (p : Prime) (n m : ℕ) (o : Order) where
     pub upper_block : (r : List Term) → IsFalling p n (m + c) o r → ((w : List (Polynomial p n)) × (vector_of p n (m + c) r ≡ zero_vector p n m ++ w)) ↔ IsBelowBlock m r
     upper_block r f = (
       λ w. head_below r f w.0 w.1,
-      λ b. (drop m (vector_of p n (m + c) r), below_of_upper p n o m c (vector_of p n (m + c) r) (length_vector p n (m + c) o r) (upper_of_rest p n o m c r f (low_head r b))),
+      λ b. (drop m (vector_of p n (m + c) r), below_of_upper p n o m c (vector_of p n (m + c) r) (length_vector p n (m + c) r) (upper_of_rest p n o m c r f (low_head r b))),
     )

@@ -12,6 +12,7 @@ use Rattle.fm_algebra.proofs.Gf.{gf_laws}
 use Rattle.fm_algebra.proofs.Algebra.{mul_zero, neg_unique, neg_zero}
 use Rattle.fm_algebra.proofs.Tables.{length-apply}
 use Rattle.fm_algebra.proofs.Concrete.{polynomials_laws}
+use Rattle.fm_groebner.proofs.Vectors.{length_vector}
 use Rattle.fm_groebner.specs.Terms.{Term, IsFalling, vector_of, vectors_of}
 use Rattle.fm_groebner.specs.Bases.{generators}
 use Rattle.fm_groebner.specs.Logs.{ReducesBy, IsIrreducible}
@@ -27,7 +28,7 @@ use Rattle.fm_groebner.proofs.Values.{value_finite}
 use Rattle.fm_groebner.proofs.Numbers.{in_of_contains, contains_of_in, in_of_map}
 use Rattle.fm_groebner.proofs.TermValues.{val, head_of_terms}
 use Rattle.fm_groebner.proofs.MonicLists.{T, V, head_place, reduces_falling}
-use Rattle.fm_groebner.proofs.Bases.{Generated, Divided, divided_monic, groebner_of_basis, image_vector, span_of, image_of, image_length, length_vector}
+use Rattle.fm_groebner.proofs.Bases.{Generated, Divided, divided_monic, groebner_of_basis, image_vector, span_of, image_of, image_length}
 use Rattle.fm_groebner.proofs.Blocks as Blocks
 use Rattle.fm_groebner.proofs.Blocks.{component_sum, upper_dec, lower_level, upper_zero, below_of_upper, upper_same, upper_of_rest}
 use Rattle.fm_groebner.proofs.Membership.{reduces_divided, divides_listed}
@@ -198,7 +199,7 @@ module _ (p : Prime) (n : ℕ) (o : Order) where
         where
           size : length w ≡ c
           size =
-              let a : length (vector_of p n (m + c) r) ≡ m + c = length_vector p n (m + c) o r in
+              let a : length (vector_of p n (m + c) r) ≡ m + c = length_vector p n (m + c) r in
               let b : length (zero_vector p n m ++ w) ≡ length (zero_vector p n m) + length w = length-append (zero_vector p n m) w in
               let d : length (zero_vector p n m) ≡ m = length-replicate m P.zero in
               let g : length (vector_of p n (m + c) r) ≡ length (zero_vector p n m ++ w) = ap length e in
@@ -255,7 +256,7 @@ module _ (p : Prime) (n : ℕ) (o : Order) where
             y_head = ((λ z. hd.0 (sym (y_upper (head_place p n (m + c) o (s ∷ rs) f) up) ∙ z)), λ b l. y_upper b (level_up b l) ∙ hd.1 b l)
 
         pub rest_of_solution : vector_of p n (m + c) r ≡ zero_vector p n m ++ drop m (vector_of p n (m + c) r)
-        rest_of_solution = below_of_upper p n o m c (vector_of p n (m + c) r) (length_vector p n (m + c) o r) (upper_of_rest p n o m c r (reduces_falling p n (m + c) o red falls) head_low)
+        rest_of_solution = below_of_upper p n o m c (vector_of p n (m + c) r) (length_vector p n (m + c) r) (upper_of_rest p n o m c r (reduces_falling p n (m + c) o red falls) head_low)
 
       -- v is in the image exactly where the upper block of an irreducible rest is zero
       pub image_of_graph : IsIrreducible ms r → InImage p n A v ↔ (w : List (Polynomial p n)) × (vector_of p n (m + c) r ≡ zero_vector p n m ++ w)

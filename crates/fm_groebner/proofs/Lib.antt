@@ -7,6 +7,7 @@ pub mod Monomials
 pub mod Places
 pub mod Ordered
 pub mod Values
+pub mod Vectors
 pub mod Images
 pub mod PlaceOrder
 pub mod TermValues

@@ -7,6 +7,7 @@ use Rattle.fm_algebra.specs.Gf.{gf}
 use Rattle.fm_algebra.specs.PolynomialMatrices.{InImage}
 use Rattle.fm_algebra.specs.Polynomials.{Polynomial}
 use Rattle.fm_algebra.proofs.Gf.{gf_laws}
+use Rattle.fm_groebner.proofs.Vectors.{length_vector}
 use Rattle.fm_groebner.specs.Terms.{Term, IsFalling, vector_of, vectors_of}
 use Rattle.fm_groebner.specs.Bases.{generators, IsGroebnerBasis}
 use Rattle.fm_groebner.specs.Logs.{ReducesBy, no_more, one_more, IsIrreducible}
@@ -20,7 +21,7 @@ use Rattle.fm_groebner.proofs.Places.{same_place}
 use Rattle.fm_groebner.proofs.Numbers.{contains_of_in, in_of_map, in_of_number}
 use Rattle.fm_groebner.proofs.TermValues.{val, number, fits_of, place_of, all_fit, val_nil, val_head, head_of_terms, empty_of_nil, number_nonzero}
 use Rattle.fm_groebner.proofs.MonicLists.{T, V, head_place, taken_away, reduces_falling}
-use Rattle.fm_groebner.proofs.Bases.{Divided, divided_by, divide, inverse_of, groebner_of_basis, span_of, image_of, length_vector}
+use Rattle.fm_groebner.proofs.Bases.{Divided, divided_by, divide, inverse_of, groebner_of_basis, span_of, image_of}
 
 module _ (p : Prime) (n m : ℕ) (o : Order) where
   abbrev X : setting.Setting
@@ -89,12 +90,12 @@ module _ (p : Prime) (n m : ℕ) (o : Order) where
     irreducible_end (s ∷ rs) f i = inr (head_place p n m o (s ∷ rs) f, head_of_terms p n m o s rs f, divides_listed s rs f i)
 
     -- membership: the rest of a reduction by a Gröbner basis
-    pub membership : (gens : List (List (Polynomial p n))) → IsGroebnerBasis p n o m (vectors_of p n m ms) gens → {by : List ℕ} {v r : List Term} → ReducesBy p n m o ms by v r → IsFalling p n m o v → IsIrreducible ms r
+    pub membership : (gens : List (List (Polynomial p n))) → IsGroebnerBasis p n m o (vectors_of p n m ms) gens → {by : List ℕ} {v r : List Term} → ReducesBy p n m o ms by v r → IsFalling p n m o v → IsIrreducible ms r
         → InImage p n (generators p n m gens) (vector_of p n m v) ↔ (r ≡ [])
     membership gens basis {by} {v} {r} red f i =
         let fr = reduces_falling p n m o red f in
         let iff = member_iff X (groebner_of_basis p n m o (vectors_of p n m ms) gens basis) (reduces_divided red f) (irreducible_end r fr i) in
         (
           λ im. empty_of_nil p n m o r fr (iff.0 (span_of p n m o gens (vector_of p n m v) im)),
-          λ e. image_of p n m o gens (vector_of p n m v) (length_vector p n m o v) (iff.1 (subst (λ z. IsNil X (V p n m o z)) (sym e) (val_nil p n m o))),
+          λ e. image_of p n m o gens (vector_of p n m v) (length_vector p n m v) (iff.1 (subst (λ z. IsNil X (V p n m o z)) (sym e) (val_nil p n m o))),
         )

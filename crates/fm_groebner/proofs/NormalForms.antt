@@ -17,6 +17,7 @@ use Rattle.fm_algebra.proofs.Gf.{gf_laws}
 use Rattle.fm_algebra.proofs.Tables.{get_or-listed}
 use Rattle.fm_algebra.proofs.Concrete.{polynomials_laws}
 use Rattle.fm_algebra.proofs.TwistWords.{twist_of_terms}
+use Rattle.fm_groebner.proofs.Vectors.{length_vector, component_of_vector}
 use Rattle.fm_groebner.specs.Terms.{Term, IsTerm, IsAboveFirst, IsFalling, terms_in, vector_of, twisted_term, twisted_terms}
 use Rattle.fm_groebner.specs.Bases.{IsHead}
 use Rattle.fm_groebner.proofs.Setting as setting
@@ -31,17 +32,12 @@ use Rattle.fm_groebner.proofs.Values.{value_finite, same_vector}
 use Rattle.fm_groebner.proofs.Heads.{head_from, zero_of_number}
 use Rattle.fm_groebner.proofs.TermValues.{val, fits_of, place_of, Fits, number, val_cons, val_nil, val_at, val_other, val_outside, val_head, head_of_terms, empty_of_nil}
 use Rattle.fm_groebner.proofs.MonicLists.{T, V, head_place}
-use Rattle.fm_groebner.proofs.Bases.{length_vector}
 use Rattle.fm_groebner.proofs.GraphMatrices.{same_components}
 use Rattle.fm_groebner.proofs.Twists.{component_map, twist_zero_is, multiple_cmp}
 
 module _ (p : Prime) (n m : ℕ) (o : Order) where
   abbrev X : setting.Setting
   X = T p n m o
-
-  pub component_of_vector : (ts : List Term) (i : ℕ) → i < m → component (polynomials p n) (vector_of p n m ts) i ≡ polynomial_of p n (terms_in (suc i) ts)
-  unfolding component vector_of
-  component_of_vector ts i h = get_or-listed m i (polynomials p n).zero (λ i. polynomial_of p n (terms_in (suc i) ts)) h
 
   -- ---- at most one
   same_term : (t u : Term) → t.component ≡ u.component → t.exponents ≡ u.exponents → t.coefficient ≡ u.coefficient → t ≡ u
@@ -155,13 +151,13 @@ module _ (p : Prime) (n m : ℕ) (o : Order) where
   pub terms_of_vector : (v : List (Polynomial p n)) → length v ≡ m → (ts : List Term) × IsFalling p n m o ts × (vector_of p n m ts ≡ v)
   terms_of_vector v l =
       let ts = normal_of (val p n m o v) (λ b w. val_outside p n m o v b w) (value_finite (ordered o n) (gf p) (gf_laws p) (gf_is_zero p) m v) in
-      (ts.0, ts.1, same_vector (ordered o n) (gf p) (gf_laws p) (gf_is_zero p) m (vector_of p n m ts.0) v (length_vector p n m o ts.0) l ts.2)
+      (ts.0, ts.1, same_vector (ordered o n) (gf p) (gf_laws p) (gf_is_zero p) m (vector_of p n m ts.0) v (length_vector p n m ts.0) l ts.2)
 
   -- the head of a falling list is its first term
   pub head_is_first : (t : Term) (ts : List Term) → IsFalling p n m o (t ∷ ts) → IsHead p n o (vector_of p n m (t ∷ ts)) t.component t.exponents
   head_is_first t ts f =
       let ft = fits_of p n m o t f.0 in
-      head_from p n m o (vector_of p n m (t ∷ ts)) (length_vector p n m o (t ∷ ts)) t.component (head_place p n m o (t ∷ ts) f).1 ft.positive ft.within (head_of_terms p n m o t ts f)
+      head_from p n m o (vector_of p n m (t ∷ ts)) (length_vector p n m (t ∷ ts)) t.component (head_place p n m o (t ∷ ts) f).1 ft.positive ft.within (head_of_terms p n m o t ts f)
 
   -- ---- twists
   abbrev twisted_pair : ℕ → List ℕ × ℕ → List ℕ × ℕ
@@ -181,12 +177,9 @@ module _ (p : Prime) (n m : ℕ) (o : Order) where
   pub vector_of_twisted : (e : ℕ) (ts : List Term) → vector_of p n m (twisted_terms p e ts) ≡ vector_twist p n e (vector_of p n m ts)
   unfolding vector_twist
   vector_of_twisted e ts = same_components (polynomials p n) (polynomials_laws p n) m (vector_of p n m (twisted_terms p e ts)) (map (frobenius_twist p n e) (vector_of p n m ts))
-      (length_vector p n m o (twisted_terms p e ts)) (length-map (vector_of p n m ts) (frobenius_twist p n e) ∙ length_vector p n m o ts)
-      (λ i h. component_of (twisted_terms p e ts) i h ∙ ap (polynomial_of p n) (twisted_in e (suc i) ts) ∙ sym (twist_of_terms p n e (terms_in (suc i) ts))
-        ∙ sym (component_map p n (frobenius_twist p n e) (twist_zero_is p n m e o) (vector_of p n m ts) i ∙ ap (frobenius_twist p n e) (component_of ts i h)))
-    where
-      component_of : (ts : List Term) (i : ℕ) → i < m → component (polynomials p n) (vector_of p n m ts) i ≡ polynomial_of p n (terms_in (suc i) ts)
-      component_of ts i h = component_of_vector ts i h
+      (length_vector p n m (twisted_terms p e ts)) (length-map (vector_of p n m ts) (frobenius_twist p n e) ∙ length_vector p n m ts)
+      (λ i h. component_of_vector p n m (twisted_terms p e ts) i h ∙ ap (polynomial_of p n) (twisted_in e (suc i) ts) ∙ sym (twist_of_terms p n e (terms_in (suc i) ts))
+        ∙ sym (component_map p n (frobenius_twist p n e) (twist_zero_is p n m e o) (vector_of p n m ts) i ∙ ap (frobenius_twist p n e) (component_of_vector p n m ts i h)))
 
   twisted_above : (e : ℕ) (t : Term) (ts : List Term) → IsAboveFirst o t ts → IsAboveFirst o (twisted_term p e t) (twisted_terms p e ts)
   twisted_above e t [] a = tt

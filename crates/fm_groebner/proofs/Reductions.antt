@@ -8,6 +8,7 @@ use Rattle.fm_tuple.specs.Tuple.{tuple_difference, tuple_maximum, TupleDivides}
 use Rattle.fm_mono.specs.declared.order.Order.{Order}
 use Rattle.fm_algebra.specs.Gf.{gf, gf_is_zero, Residue, same_residue}
 use Rattle.fm_algebra.proofs.Gf.{gf_laws}
+use Rattle.fm_groebner.proofs.Vectors.{length_vector}
 use Rattle.fm_groebner.specs.Terms.{Term, TermDivides, IsFalling, IsMonic, vector_of, multiple_terms}
 use Rattle.fm_groebner.specs.Logs.{IsNumber, first, next, ReducesBy, no_more, one_more, IsIrreducible, IsSVector}
 use Rattle.fm_groebner.proofs.Setting as setting
@@ -21,7 +22,7 @@ use Rattle.fm_groebner.proofs.Values.{value_finite, same_vector}
 use Rattle.fm_groebner.proofs.Numbers.{contains_cases}
 use Rattle.fm_groebner.proofs.TermValues.{number, fits_of, place_of, Fits, all_fit, val_outside, val_append, val_multiple, val_head, head_of_terms, number_times, number_nonzero}
 use Rattle.fm_groebner.proofs.MonicLists.{T, V, head_place}
-use Rattle.fm_groebner.proofs.Bases.{length_vector, inverse_of}
+use Rattle.fm_groebner.proofs.Bases.{inverse_of}
 use Rattle.fm_groebner.proofs.NormalForms.{normal_of}
 
 divides_term : (t s : Term) → Dec (TermDivides t s)
@@ -79,7 +80,7 @@ module _ (p : Prime) (n m : ℕ) (o : Order) where
   vector_back : (v w g : List Term) (c : ℕ) (a : Monomial n) → IsFalling p n m o g → ((b : ℕ × Monomial n) → V p n m o v b ≡ (gf p).add ((gf p).mul ((gf p).neg (number p n m o c)) (shift X a (V p n m o g) b)) (V p n m o w b))
       → vector_of p n m (v ++ multiple_terms p c a.exponents g) ≡ vector_of p n m w
   vector_back v w g c a f e = same_vector (ordered o n) (gf p) (gf_laws p) (gf_is_zero p) m (vector_of p n m (v ++ multiple_terms p c a.exponents g)) (vector_of p n m w)
-      (length_vector p n m o (v ++ multiple_terms p c a.exponents g)) (length_vector p n m o w)
+      (length_vector p n m (v ++ multiple_terms p c a.exponents g)) (length_vector p n m w)
       (λ b. val_append p n m o v (multiple_terms p c a.exponents g) b
         ∙ ap₂ (gf p).add (e b ∙ ap (λ x. (gf p).add x (V p n m o w b)) (neg_mul (gf_laws p) (number p n m o c) (shift X a (V p n m o g) b))) (val_multiple p n m o c a g (all_fit p n m o g f) b)
         ∙ put_back ((gf p).mul (number p n m o c) (shift X a (V p n m o g) b)) (V p n m o w b))

@@ -1,10 +1,12 @@
 -- What joins and multiples of lists of terms mean, and the blocks of their vectors.
-use Rattle.std.proofs.Common.{◌≡◌, ℕ, zero, suc, ◌*◌, ◌%◌, ◌<◌, Bool, true, false, cond, eqb, List, [], ◌∷◌, ◌++◌, map, length, refl, sym, ap, ap₂, ◌∙◌, arith, mod-eq_of_lt, mod-lt}
+use Rattle.std.proofs.Common.{◌≡◌, ℕ, zero, suc, ◌*◌, ◌%◌, ◌<◌, Bool, true, false, cond, eqb, List, [], ◌∷◌, ◌++◌, map, length, replicate, replicate, refl, sym, ap, ap₂, ◌∙◌, arith, mod-eq_of_lt, mod-lt}
 use native.Mathlib.Decide.{dec_lt}
+use Rattle.fm_tuple.proofs.Tuples.{zeros_tuple_sum}
+use Rattle.fm_groebner.proofs.Vectors.{length_vector, component_of_vector}
+use Rattle.fm_groebner.proofs.Monomials.{length_zeros}
 use Rattle.fm_gfp.specs.Primes.{prime_value}
 use Rattle.fm_gfp.specs.declared.prime.Prime.{Prime}
 use Rattle.fm_tuple.specs.Tuple.{tuple_sum}
-use Rattle.fm_mono.specs.declared.order.Order.{Order}
 use Rattle.fm_algebra.specs.Gf.{prime_positive}
 use Rattle.fm_algebra.specs.Matrix.{component}
 use Rattle.fm_algebra.specs.Polynomials.{polynomials, polynomial_zero, polynomial_of, polynomial_sum, polynomial_product, polynomial_term, AllFit}
@@ -12,20 +14,13 @@ use Rattle.fm_algebra.proofs.Algebra.{mul_zero}
 use Rattle.fm_algebra.proofs.Concrete.{polynomials_laws}
 use Rattle.fm_algebra.proofs.TermWords.{of_append, of_modulo, term_times, shifted_terms}
 use Rattle.std.proofs.Math.ListN.{get_or-eq_default}
-use Rattle.fm_groebner.specs.Terms.{Term, terms_in, vector_of, multiple_terms}
+use Rattle.fm_groebner.specs.Terms.{Term, HaveExponents, terms_in, vector_of, multiple_terms, scaled_terms}
 use Rattle.fm_groebner.specs.Bases.{vector_component}
-use Rattle.fm_groebner.proofs.NormalForms.{component_of_vector}
-use Rattle.fm_groebner.proofs.Bases.{length_vector}
 
--- each term has n exponents
-abbrev pub HaveExponents : ℕ → List Term → Type 0
-HaveExponents n [] = Unit {0}
-HaveExponents n (t ∷ ts) = (length t.exponents ≡ n) × HaveExponents n ts
-
-module _ (p : Prime) (n m : ℕ) (o : Order) where
+module _ (p : Prime) (n m : ℕ) where
   beyond : (ts : List Term) (i : ℕ) → ¬ (i < m) → component (polynomials p n) (vector_of p n m ts) i ≡ (polynomials p n).zero
   unfolding component
-  beyond ts i w = get_or-eq_default (vector_of p n m ts) (polynomials p n).zero (let l = length_vector p n m o ts in omega (arith, l, w))
+  beyond ts i w = get_or-eq_default (vector_of p n m ts) (polynomials p n).zero (let l = length_vector p n m ts in omega (arith, l, w))
 
   in_append_by : (x : Bool) (t : List ℕ × ℕ) (ts us : List (List ℕ × ℕ)) → cond x (t ∷ (ts ++ us)) (ts ++ us) ≡ cond x (t ∷ ts) ts ++ us
   in_append_by true t ts us = refl
@@ -42,8 +37,8 @@ module _ (p : Prime) (n m : ℕ) (o : Order) where
   unfolding polynomial_sum polynomial_zero
   component_append ts us zero = sym ((polynomials_laws p n).zero_add (polynomials p n).zero)
   component_append ts us (suc i) = elim (dec_lt i m) [
-    | yes l ↦ component_of_vector p n m o (ts ++ us) i l ∙ ap (polynomial_of p n) (in_append (suc i) ts us) ∙ of_append p n (terms_in (suc i) ts) (terms_in (suc i) us)
-        ∙ sym (ap₂ (polynomials p n).add (component_of_vector p n m o ts i l) (component_of_vector p n m o us i l))
+    | yes l ↦ component_of_vector p n m (ts ++ us) i l ∙ ap (polynomial_of p n) (in_append (suc i) ts us) ∙ of_append p n (terms_in (suc i) ts) (terms_in (suc i) us)
+        ∙ sym (ap₂ (polynomials p n).add (component_of_vector p n m ts i l) (component_of_vector p n m us i l))
     | no w ↦ beyond (ts ++ us) i w ∙ sym (ap₂ (polynomials p n).add (beyond ts i w) (beyond us i w) ∙ (polynomials_laws p n).zero_add (polynomials p n).zero)
   ]
 
@@ -82,7 +77,18 @@ module _ (p : Prime) (n m : ℕ) (o : Order) where
   unfolding polynomial_product polynomial_zero
   component_multiple c a ts l h zero = sym (mul_zero (polynomials_laws p n) (polynomial_term p n c a))
   component_multiple c a ts l h (suc i) = elim (dec_lt i m) [
-    | yes k ↦ component_of_vector p n m o (multiple_terms p c a ts) i k ∙ ap (polynomial_of p n) (in_multiple c a (suc i) ts) ∙ modulo c a (terms_in (suc i) ts)
-        ∙ sym (term_times p n c a (terms_in (suc i) ts) l (in_fits (suc i) ts h)) ∙ ap ((polynomials p n).mul (polynomial_term p n c a)) (sym (component_of_vector p n m o ts i k))
+    | yes k ↦ component_of_vector p n m (multiple_terms p c a ts) i k ∙ ap (polynomial_of p n) (in_multiple c a (suc i) ts) ∙ modulo c a (terms_in (suc i) ts)
+        ∙ sym (term_times p n c a (terms_in (suc i) ts) l (in_fits (suc i) ts h)) ∙ ap ((polynomials p n).mul (polynomial_term p n c a)) (sym (component_of_vector p n m ts i k))
     | no w ↦ beyond (multiple_terms p c a ts) i w ∙ sym (ap ((polynomials p n).mul (polynomial_term p n c a)) (beyond ts i w) ∙ mul_zero (polynomials_laws p n) (polynomial_term p n c a))
   ]
+
+  scaled_is_multiple : (c : ℕ) (ts : List Term) → HaveExponents n ts → scaled_terms p c ts ≡ multiple_terms p c (replicate n 0) ts
+  scaled_is_multiple c [] h = refl
+  scaled_is_multiple c (t ∷ ts) h = ap₂ (λ x y. x ∷ y)
+      (λ i. record { component = t.component; exponents = (sym (ap (λ k. tuple_sum (replicate k 0) t.exponents) (sym h.0) ∙ zeros_tuple_sum t.exponents)) i; coefficient = (c * t.coefficient) % prime_value p })
+      (scaled_is_multiple c ts h.1)
+
+  -- the scaled list means the product with a constant
+  pub component_scaled : (c : ℕ) (ts : List Term) → HaveExponents n ts → (i : ℕ)
+      → vector_component p n (vector_of p n m (scaled_terms p c ts)) i ≡ polynomial_product p n (polynomial_term p n c (replicate n 0)) (vector_component p n (vector_of p n m ts) i)
+  component_scaled c ts h i = ap (λ x. vector_component p n (vector_of p n m x) i) (scaled_is_multiple c ts h) ∙ component_multiple c (replicate n 0) ts (length_zeros n) h i

@@ -163,7 +163,7 @@ module _ (p : Prime) (n : ℕ) where
         let first : q * x ≤ q * y + z = omega arith in
         (first, multiple_divides d a r (omega arith) (omega arith) h.1)
 
-    pub groebner_of_twist : (members gens : List (List (Polynomial p n))) → IsGroebnerBasis p n o m members gens → IsGroebnerBasis p n o m (map (vector_twist p n e) members) (map (vector_twist p n e) gens)
+    pub groebner_of_twist : (members gens : List (List (Polynomial p n))) → IsGroebnerBasis p n m o members gens → IsGroebnerBasis p n m o (map (vector_twist p n e) members) (map (vector_twist p n e) gens)
     groebner_of_twist members gens basis = record {
       inside = λ g c. inside g (in_of_map (vector_twist p n e) members (in_of_contains (map (vector_twist p n e) members) g c));
       heads = heads;
@@ -201,6 +201,6 @@ module _ (p : Prime) (n : ℕ) (o : Order) (e : ℕ) (A : PolynomialMatrix p n) 
   -- the twist of a Gröbner basis of the graph of A is one of the graph of the twist of A
   pub twisted_graph : (members : List (List (Polynomial p n))) → IsGraphBasis p n o A members → IsGraphBasis p n o (matrix_twist p n e A) (map (vector_twist p n e) members)
   twisted_graph members basis =
-      subst (λ k. IsGroebnerBasis p n o k (map (vector_twist p n e) members) (graph p n (matrix_twist p n e A)).columns) twisted_size
-        (subst (λ cs. IsGroebnerBasis p n o (A.rows + length A.columns) (map (vector_twist p n e) members) cs) twisted_graph_columns
+      subst (λ k. IsGroebnerBasis p n k o (map (vector_twist p n e) members) (graph p n (matrix_twist p n e A)).columns) twisted_size
+        (subst (λ cs. IsGroebnerBasis p n (A.rows + length A.columns) o (map (vector_twist p n e) members) cs) twisted_graph_columns
           (groebner_of_twist p n (A.rows + length A.columns) e o members (graph p n A).columns basis))

@@ -13,7 +13,7 @@ module _ (p : Prime) (n : ℕ) where
 
   -- the members are a Gröbner basis of the graph of A
   abbrev pub IsGraphBasis : Order → PolynomialMatrix p n → List (List (Polynomial p n)) → Type 0
-  IsGraphBasis o A members = IsGroebnerBasis p n o (A.rows + length A.columns) members (graph A).columns
+  IsGraphBasis o A members = IsGroebnerBasis p n (A.rows + length A.columns) o members (graph A).columns
 
   abbrev pub zero_vector : ℕ → List (Polynomial p n)
   zero_vector m = replicate m (polynomial_zero p n)

@@ -1,5 +1,5 @@
 -- Vectors of polynomials as lists of terms, in position over term order (Adams and Loustaunau, An Introduction to Gröbner Bases, 1994, section 3.5).
-use Rattle.std.specs.Prelude.{◌≡◌, ℕ, suc, ◌*◌, ◌%◌, ◌^◌, ◌<◌, ◌≤◌, List, [], ◌∷◌, map, cond, eqb, length}
+use Rattle.std.specs.Prelude.{◌≡◌, ℕ, suc, ◌*◌, ◌%◌, ◌^◌, ◌<◌, ◌≤◌, List, [], ◌∷◌, map, cond, eqb, length, Contains}
 use Rattle.std.specs.Ordering.{nat_cmp, ordering_then}
 use Rattle.std.specs.declared.cmp.Ordering.{Ordering}
 use Rattle.std.specs.declared.cmp.Ordering.TheVariants.{Less}
@@ -42,10 +42,23 @@ abbrev pub IsFalling : Prime → ℕ → ℕ → Order → List Term → Type 0
 IsFalling p n m o [] = Unit {0}
 IsFalling p n m o (t ∷ ts) = IsTerm p n m t × IsAboveFirst o t ts × IsFalling p n m o ts
 
+-- each of the members is in normal form
+abbrev pub AreFalling : Prime → ℕ → ℕ → Order → List (List Term) → Type 0
+AreFalling p n m o members = (ts : List Term) → Contains members ts → IsFalling p n m o ts
+
 -- the normal form of a vector whose leading coefficient is 1
 abbrev pub IsMonic : List Term → Type 0
 IsMonic [] = ⊥
 IsMonic (t ∷ ts) = t.coefficient ≡ 1
+
+-- each of the members is in normal form, with leading coefficient 1
+abbrev pub AreMonic : Prime → ℕ → ℕ → Order → List (List Term) → Type 0
+AreMonic p n m o members = (ts : List Term) → Contains members ts → IsFalling p n m o ts × IsMonic ts
+
+-- each term has n exponents
+abbrev pub HaveExponents : ℕ → List Term → Type 0
+HaveExponents n [] = Unit {0}
+HaveExponents n (t ∷ ts) = (length t.exponents ≡ n) × HaveExponents n ts
 
 -- the terms in component i, as exponents and coefficients
 unfoldable pub terms_in : ℕ → List Term → List (List ℕ × ℕ)
