@@ -4,9 +4,9 @@ use Rattle.fm_algebra.specs.Ring.{Ring, IsRing}
 
 module _ {R : Ring} (L : IsRing R) where
   open R use {Carrier, zero as 𝟘, one as 𝟙, add as ◌⊕◌, mul as ◌⊗◌, neg}
+
   infixl 60 ◌⊕◌
   infixl 70 ◌⊗◌
-
   pub add_zero : (a : Carrier) → a ⊕ 𝟘 ≡ a
   add_zero a = L.add_comm a 𝟘 ∙ L.zero_add a
 

@@ -7,7 +7,7 @@ use Rattle.fm_algebra.specs.Gf.{gf, gf_is_zero}
 use Rattle.fm_algebra.specs.PolynomialMatrices.{InImage}
 use Rattle.fm_algebra.specs.Polynomials.{Polynomial, polynomials}
 use Rattle.fm_algebra.proofs.Gf.{gf_laws, gf_field}
-use Rattle.fm_algebra.proofs.Tables.{length-listed, length-apply}
+use Rattle.fm_algebra.proofs.Tables.{length-apply}
 use Rattle.fm_groebner.proofs.Vectors.{length_vector}
 use Rattle.fm_groebner.specs.Terms.{Term, vector_of, vectors_of}
 use Rattle.fm_groebner.specs.Bases.{IsHead, generators, HeadDivides, IsGroebnerBasis}
@@ -68,9 +68,9 @@ module _ (p : Prime) (n m : ℕ) (o : Order) where
             exponents = t.exponents;
             is_member = contains_of_in (in_map (vector_of p n m) (in_of_number j));
             is_head = subst (λ k. IsHead p n o (vector_of p n m (t ∷ ts)) k t.exponents) same
-              (head_from p n m o (vector_of p n m (t ∷ ts)) (length_vector p n m (t ∷ ts)) t.component (head_place p n m o (t ∷ ts) f).1 ft.positive ft.within (head_of_terms p n m o t ts f));
+                (head_from p n m o (vector_of p n m (t ∷ ts)) (length_vector p n m (t ∷ ts)) t.component (head_place p n m o (t ∷ ts) f).1 ft.positive ft.within (head_of_terms p n m o t ts f));
             divides = subst (TupleDivides t.exponents) (ap (λ z. z.1.exponents) e)
-              (subst (λ z. TupleDivides t.exponents z.exponents) (times_comm (head_place p n m o (t ∷ ts) f).1 b) (divides_times (head_place p n m o (t ∷ ts) f).1 b));
+                (subst (λ z. TupleDivides t.exponents z.exponents) (times_comm (head_place p n m o (t ∷ ts) f).1 b) (divides_times (head_place p n m o (t ∷ ts) f).1 b));
           }
 
   -- a basis of monic lists of terms is one of the vectors of polynomials
@@ -78,8 +78,8 @@ module _ (p : Prime) (n m : ℕ) (o : Order) where
   basis_of_members ms gens well basis = record {
     inside = λ g c. inside g (in_of_map (vector_of p n m) ms (in_of_contains (vectors_of p n m ms) g c));
     heads = λ v i a im hd.
-      let h = head_to p n m o v (image_length gens v im) i a hd in
-      basis_heads ms i (record { exponents = a; fits = h.2 }) h.0 h.1 (basis.heads (W v) (m - i, record { exponents = a; fits = h.2 }) (span_of gens v im) h.3);
+        let h = head_to p n m o v (image_length gens v im) i a hd in
+        basis_heads ms i (record { exponents = a; fits = h.2 }) h.0 h.1 (basis.heads (W v) (m - i, record { exponents = a; fits = h.2 }) (span_of gens v im) h.3);
   }
     where
       inside : (g : List (Polynomial p n)) → (x : List Term) × In ms x × (vector_of p n m x ≡ g) → InImage p n (generators p n m gens) g
@@ -87,7 +87,7 @@ module _ (p : Prime) (n m : ℕ) (o : Order) where
           let k = number_of_in x.1 in
           let w = well k.0 x.0 k.1 in
           subst (InImage p n (generators p n m gens)) x.2
-            (image_of gens (vector_of p n m x.0) (length_vector p n m x.0) (basis.members (V p n m o x.0) (head_place p n m o x.0 w.0) (k.0, member_at w.0 w.1 k.1)))
+          (image_of gens (vector_of p n m x.0) (length_vector p n m x.0) (basis.members (V p n m o x.0) (head_place p n m o x.0 w.0) (k.0, member_at w.0 w.1 k.1)))
 
   -- ---- from vectors of polynomials to functions
   -- the members, each divided by its leading coefficient
@@ -141,5 +141,5 @@ module _ (p : Prime) (n m : ℕ) (o : Order) where
             let within : m - b.0 ≤ m = omega arith in
             let level : m - (m - b.0) ≡ b.0 = omega (arith, below) in
             subst (λ k. Divides X (Divided members) (k, b.1)) level
-              (divided_heads (m - b.0) b.1 within (basis.heads v.0 (m - b.0) b.1.exponents v.1
-                (head_from p n m o v.0 (image_length gens v.0 v.1) (m - b.0) b.1 pos within (subst (λ k. setting.IsHead X (W v.0) (k, b.1)) (sym level) hv))))
+            (divided_heads (m - b.0) b.1 within (basis.heads v.0 (m - b.0) b.1.exponents v.1
+            (head_from p n m o v.0 (image_length gens v.0 v.1) (m - b.0) b.1 pos within (subst (λ k. setting.IsHead X (W v.0) (k, b.1)) (sym level) hv))))

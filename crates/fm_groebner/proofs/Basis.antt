@@ -9,11 +9,11 @@ use Rattle.fm_groebner.proofs.Buchberger.{multiple_head, multiple_above, groebne
 module _ (S : Setting) where
   open S use {Place, Monomial, ◌·◌, ◌•◌, Less}
   open S.ring use {Carrier, zero as 𝟘, one as 𝟙, add as ◌⊕◌, mul as ◌⊗◌, neg}
+
   infixl 60 ◌⊕◌
   infixl 70 ◌⊗◌
   infixl 70 ◌·◌
   infixr 65 ◌•◌
-
   module _ {G : Family S} {A : Vect S → Type 0} where
     -- a monic family in which all pairs are good is a Gröbner basis of what it spans
     pub groebner_of_good_pairs : IsMonic S G → ((g : Vect S) (h : Place) (g' : Vect S) (h' : Place) → G g h → G g' h' → Good S G g h g' h')
@@ -53,7 +53,7 @@ module _ (S : Setting) where
   module _ {G : Family S} {A : Vect S → Type 0} (monic : IsMonic S G) (basis : IsGroebner S G A) (finite : (g : Vect S) → A g → IsFinite S g) where
     cut_head : (v : Vect S) (a : Place) → Span S A v → IsHead S v a → Divides S G a → ((b : Place) → Less b a → (u : Vect S) → Span S A u → IsHead S u b → Representation S G (λ c. ¬ (Less b c)) u)
         → Representation S G (λ c. ¬ (Less a c)) v
-    cut_head v a s p d ih = lin_comb (v a) (rep_member S d.by d.member d.at d.in_G (not_less_of_same S (sym d.is) )) rest (λ b. uncut S.laws (v a) (shift S d.by d.member b) (v b))
+    cut_head v a s p d ih = lin_comb (v a) (rep_member S d.by d.member d.at d.in_G (not_less_of_same S (sym d.is))) rest (λ b. uncut S.laws (v a) (shift S d.by d.member b) (v b))
       where
         u : Vect S
         u b = neg (v a) ⊗ shift S d.by d.member b ⊕ v b

@@ -34,7 +34,7 @@ module _ (p : Prime) (n : ℕ) (o : Order) where
   pub component_zero : (l : ℕ) (v : List (Polynomial p n)) (i : ℕ) → i < l → ((a : Monomial n) → val p n l o v (l - suc i, a) ≡ (gf p).zero) → component P v i ≡ P.zero
   component_zero l v i h z = sym (component_from (ordered o n) (gf p) (gf_laws p) (gf_is_zero p) l i v h)
       ∙ same_at_tuples (gf p) (gf_is_zero p) n (component_at (ordered o n) (gf p) (gf_laws p) (gf_is_zero p) l v (l - suc i)) P.zero
-          (λ a f. sym (value_is (ordered o n) (gf p) (gf_laws p) (gf_is_zero p) l v (l - suc i, record { exponents = a; fits = f })) ∙ z (record { exponents = a; fits = f }) ∙ sym (ap (λ h. h a) (coeff_zero (gf p) (gf_laws p) (gf_is_zero p) n)))
+      (λ a f. sym (value_is (ordered o n) (gf p) (gf_laws p) (gf_is_zero p) l v (l - suc i, record { exponents = a; fits = f })) ∙ z (record { exponents = a; fits = f }) ∙ sym (ap (λ h. h a) (coeff_zero (gf p) (gf_laws p) (gf_is_zero p) n)))
 
   pub val_component : (l : ℕ) (v : List (Polynomial p n)) (i : ℕ) (a : Monomial n) → i < l → val p n l o v (l - suc i, a) ≡ coeff (component P v i) a.exponents
   val_component l v i a h = value_is (ordered o n) (gf p) (gf_laws p) (gf_is_zero p) l v (l - suc i, a) ∙ ap (λ f. coeff f a.exponents) (component_from (ordered o n) (gf p) (gf_laws p) (gf_is_zero p) l i v h)
@@ -66,9 +66,9 @@ module _ (p : Prime) (n : ℕ) (o : Order) where
           let inside : (m + c) - suc b.0 < m + c = omega arith in
           let level : (m + c) - suc ((m + c) - suc b.0) ≡ b.0 = omega arith in
           ap (λ k. val p n (m + c) o (zero_vector p n m ++ w) (k, b.1)) (sym level)
-        ∙ val_component (m + c) (zero_vector p n m ++ w) ((m + c) - suc b.0) b.1 inside
-        ∙ ap (λ f. coeff f b.1.exponents) (component_left P PL (zeros P PL m) w ((m + c) - suc b.0) (subst (λ x. (m + c) - suc b.0 < x) (sym (length-replicate m P.zero)) i) ∙ component_zeros P PL m ((m + c) - suc b.0) i)
-        ∙ ap (λ h. h b.1.exponents) (coeff_zero (gf p) (gf_laws p) (gf_is_zero p) n)
+          ∙ val_component (m + c) (zero_vector p n m ++ w) ((m + c) - suc b.0) b.1 inside
+          ∙ ap (λ f. coeff f b.1.exponents) (component_left P PL (zeros P PL m) w ((m + c) - suc b.0) (subst (λ x. (m + c) - suc b.0 < x) (sym (length-replicate m P.zero)) i) ∙ component_zeros P PL m ((m + c) - suc b.0) i)
+          ∙ ap (λ h. h b.1.exponents) (coeff_zero (gf p) (gf_laws p) (gf_is_zero p) n)
     ]
 
     -- a vector that is zero in the upper block is below zeros
@@ -85,9 +85,9 @@ module _ (p : Prime) (n : ℕ) (o : Order) where
           let i : (m + c) - suc b.0 < length v = omega (arith, up, l, f) in
           let level : (m + c) - suc ((m + c) - suc b.0) ≡ b.0 = omega arith in
           subst (λ k. val p n (m + c) o (v ++ x) (k, b.1) ≡ val p n (m + c) o (v ++ y) (k, b.1)) level
-            (val_component (m + c) (v ++ x) ((m + c) - suc b.0) b.1 inside
-            ∙ ap (λ g. coeff g b.1.exponents) (component_left P PL v x ((m + c) - suc b.0) i ∙ sym (component_left P PL v y ((m + c) - suc b.0) i))
-            ∙ sym (val_component (m + c) (v ++ y) ((m + c) - suc b.0) b.1 inside))
+          (val_component (m + c) (v ++ x) ((m + c) - suc b.0) b.1 inside
+          ∙ ap (λ g. coeff g b.1.exponents) (component_left P PL v x ((m + c) - suc b.0) i ∙ sym (component_left P PL v y ((m + c) - suc b.0) i))
+          ∙ sym (val_component (m + c) (v ++ y) ((m + c) - suc b.0) b.1 inside))
     ]
 
     -- a falling list whose head is not in the upper block is zero there

@@ -8,11 +8,11 @@ use Rattle.fm_groebner.proofs.Span.{IsLinear, lin_map, lin_vanish, lin_nil, lin_
 module _ (S : Setting) where
   open S use {Place, Monomial, ◌·◌, ◌•◌, Less}
   open S.ring use {Carrier, zero as 𝟘, one as 𝟙, add as ◌⊕◌, mul as ◌⊗◌, neg}
+
   infixl 60 ◌⊕◌
   infixl 70 ◌⊗◌
   infixl 70 ◌·◌
   infixr 65 ◌•◌
-
   module _ {G : Family S} (monic : IsMonic S G) where
     -- a multiple of a member is monic at its head and zero above it
     pub multiple_head : (g : Vect S) (h : Place) → G g h → (m : Monomial) → shift S m g (m • h) ≡ 𝟙
@@ -120,8 +120,8 @@ module _ (S : Setting) where
         multiple : ((u : Monomial) × (m ≡ u · s) × (n ≡ u · t)) → Low S G (m • h) (λ b. neg 𝟙 ⊗ shift S n g' b ⊕ shift S m g b)
         multiple p = lin_eq S (rep_shift S p.0 (λ b l. subst (λ z. Less (p.0 • b) z) (sym (S.at_at p.0 s h) ∙ ap (λ z. z • h) (sym p.1)) (S.less_at p.0 l)) low)
             (λ b. ap₂ (λ x y. neg 𝟙 ⊗ shift S x g' b ⊕ shift S y g b) p.2 p.1
-                ∙ ap₂ (λ x y. neg 𝟙 ⊗ x ⊕ y) (sym (shift_shift S p.0 t g' b)) (sym (shift_shift S p.0 s g b))
-                ∙ sym ((shift_linear S p.0).on_comb (neg 𝟙) (shift S t g') (shift S s g) (λ c. neg 𝟙 ⊗ shift S t g' c ⊕ shift S s g c) (λ c. refl) b))
+            ∙ ap₂ (λ x y. neg 𝟙 ⊗ x ⊕ y) (sym (shift_shift S p.0 t g' b)) (sym (shift_shift S p.0 s g b))
+            ∙ sym ((shift_linear S p.0).on_comb (neg 𝟙) (shift S t g') (shift S s g) (λ c. neg 𝟙 ⊗ shift S t g' c ⊕ shift S s g c) (λ c. refl) b))
 
   -- ---- reduction
   module _ {G : Family S} (monic : IsMonic S G) where
@@ -147,18 +147,21 @@ module _ (S : Setting) where
     reduces_rep seg more (done e) outside rep = lin_eq S rep e
     reduces_rep seg more (step {v = v} {v' = v'} c m g h i nz e s) outside rep =
         lin_comb c (rep_member S m g h (more g h i) (place_in S seg v outside (m • h) nz)) (reduces_rep seg more s (step_in seg v v' c m g h i nz e outside) rep)
-            (λ b. uncut S.laws c (shift S m g b) (v b) ∙ ap (λ x. c ⊗ shift S m g b ⊕ x) (sym (e b)))
+        (λ b. uncut S.laws c (shift S m g b) (v b) ∙ ap (λ x. c ⊗ shift S m g b ⊕ x) (sym (e b)))
 
     -- what reduces to zero has a standard representation
     pub standard_of_reduces : {v r : Vect S} {a : Place} → IsHead S v a → Reduces S G v r → IsNil S r → Representation S G (λ b. ¬ (Less a b)) v
     standard_of_reduces {v} {r} {a} p s z = reduces_rep (up_to_segment S a) (λ g h i. i) s outside (lin_zero z)
       where
         outside : (b : Place) → ¬ (¬ (Less a b)) → v b ≡ 𝟘
-        outside b nn = elim ((up_to_segment S a).dec b) [ yes n ↦ absurd (nn n) | no n' ↦ elim (S.compared a b) [
-          | below l ↦ p.1 b l
-          | same e ↦ absurd (nn (not_less_of_same S e))
-          | above l ↦ absurd (nn (λ k. less_asym S l k))
-        ] ]
+        outside b nn = elim ((up_to_segment S a).dec b) [
+          | yes n ↦ absurd (nn n)
+          | no n' ↦ elim (S.compared a b) [
+            | below l ↦ p.1 b l
+            | same e ↦ absurd (nn (not_less_of_same S e))
+            | above l ↦ absurd (nn (λ k. less_asym S l k))
+          ]
+        ]
 
     -- the S-vector is zero at each place that is not below the common multiple
     pub s_vector_below : (g : Vect S) (h : Place) (g' : Vect S) (h' : Place) (s t : Monomial) → G g h → G g' h' → s • h ≡ t • h'

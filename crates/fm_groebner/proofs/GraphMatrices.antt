@@ -24,9 +24,9 @@ append_injective (x ∷ u) (y ∷ u') v v' l e =
 
 module _ (R : Ring) (L : IsRing R) where
   open R use {Carrier, zero as 𝟘, one as 𝟙, add as ◌⊕◌, mul as ◌⊗◌}
+
   infixl 60 ◌⊕◌
   infixl 70 ◌⊗◌
-
   abbrev pub zeros : ℕ → List Carrier
   zeros m = replicate m 𝟘
 
@@ -83,9 +83,9 @@ module _ (R : Ring) (L : IsRing R) where
     entry_lower i k h l =
         let back : A.rows + i - A.rows ≡ i = omega arith in
         entry_table R (A.rows + cols R A) (cols R A) (A.rows + i) k (λ i j. cond (ltb i A.rows) (entry R A i j) (entry R (unit_matrix R (cols R A)) (i - A.rows) j)) (omega arith) l
-      ∙ ap (λ b. cond b (entry R A (A.rows + i) k) (entry R (unit_matrix R (cols R A)) (A.rows + i - A.rows) k)) (le-ltb (A.rows + i) A.rows (omega arith))
-      ∙ ap (λ x. entry R (unit_matrix R (cols R A)) x k) back
-      ∙ entry_table R (cols R A) (cols R A) i k (λ i j. cond (eqb i j) 𝟙 𝟘) h l
+        ∙ ap (λ b. cond b (entry R A (A.rows + i) k) (entry R (unit_matrix R (cols R A)) (A.rows + i - A.rows) k)) (le-ltb (A.rows + i) A.rows (omega arith))
+        ∙ ap (λ x. entry R (unit_matrix R (cols R A)) x k) back
+        ∙ entry_table R (cols R A) (cols R A) i k (λ i j. cond (eqb i j) 𝟙 𝟘) h l
 
     column_length : (k : ℕ) → k < cols R A → length (get_or graph_matrix.columns k []) ≡ A.rows + cols R A
     unfolding stacked unit_matrix scalar_matrix table
@@ -97,15 +97,15 @@ module _ (R : Ring) (L : IsRing R) where
     graph_apply w l = same_blocks A.rows (cols R A) (apply R graph_generated w) (apply R A w ++ w) (length-apply R graph_generated w)
         (length-append (apply R A w) w ∙ ap₂ (λ x y. x + y) (length-apply R A w) l)
         (λ i h. apply_component graph_generated w i (omega arith)
-          ∙ sum_cast L (cols R graph_matrix) (cols R A) (λ k b. entry R graph_generated i k ⊗ component R w k) (λ k b. entry R A i k ⊗ component R w k) graph_cols
-              (λ k a b. ap (λ x. x ⊗ component R w k) (entry_upper i k h b))
-          ∙ sym (component_left (apply R A w) w i (subst (λ x. i < x) (sym (length-apply R A w)) h) ∙ apply_component A w i h))
+        ∙ sum_cast L (cols R graph_matrix) (cols R A) (λ k b. entry R graph_generated i k ⊗ component R w k) (λ k b. entry R A i k ⊗ component R w k) graph_cols
+        (λ k a b. ap (λ x. x ⊗ component R w k) (entry_upper i k h b))
+        ∙ sym (component_left (apply R A w) w i (subst (λ x. i < x) (sym (length-apply R A w)) h) ∙ apply_component A w i h))
         (λ i h. apply_component graph_generated w (A.rows + i) (omega arith)
-          ∙ sum_cast L (cols R graph_matrix) (cols R A) (λ k b. entry R graph_generated (A.rows + i) k ⊗ component R w k) (λ k b. cond (eqb i k) 𝟙 𝟘 ⊗ component R w k) graph_cols
-              (λ k a b. ap (λ x. x ⊗ component R w k) (entry_lower i k h b))
-          ∙ sum_only L (cols R A) i (λ k b. cond (eqb i k) 𝟙 𝟘 ⊗ component R w k) h (λ k b ne. ap (λ x. x ⊗ component R w k) (where_other L i k 𝟙 (λ e. ne (sym e))) ∙ zero_mul L (component R w k))
-          ∙ ap (λ x. x ⊗ component R w i) (where_same L i 𝟙) ∙ L.one_mul (component R w i)
-          ∙ sym (component_right A.rows (apply R A w) w i (length-apply R A w)))
+        ∙ sum_cast L (cols R graph_matrix) (cols R A) (λ k b. entry R graph_generated (A.rows + i) k ⊗ component R w k) (λ k b. cond (eqb i k) 𝟙 𝟘 ⊗ component R w k) graph_cols
+        (λ k a b. ap (λ x. x ⊗ component R w k) (entry_lower i k h b))
+        ∙ sum_only L (cols R A) i (λ k b. cond (eqb i k) 𝟙 𝟘 ⊗ component R w k) h (λ k b ne. ap (λ x. x ⊗ component R w k) (where_other L i k 𝟙 (λ e. ne (sym e))) ∙ zero_mul L (component R w k))
+        ∙ ap (λ x. x ⊗ component R w i) (where_same L i 𝟙) ∙ L.one_mul (component R w i)
+        ∙ sym (component_right A.rows (apply R A w) w i (length-apply R A w)))
 
   -- ---- columns below zeros
   module _ (m c : ℕ) (columns : List (List Carrier)) where
@@ -121,14 +121,14 @@ module _ (R : Ring) (L : IsRing R) where
     lowered_apply w = same_blocks m c (apply R lowered w) (zeros m ++ apply R (record { rows = c; columns = columns }) w) (length-apply R lowered w)
         (length-append (zeros m) (apply R (record { rows = c; columns = columns }) w) ∙ ap₂ (λ x y. x + y) (length-replicate m 𝟘) (length-apply R (record { rows = c; columns = columns }) w))
         (λ i h. apply_component lowered w i (omega arith)
-          ∙ sum_cast L (length lowered.columns) (length columns) (λ k b. entry R lowered i k ⊗ component R w k) (λ k b. 𝟘) (length-map columns (λ v. zeros m ++ v))
-              (λ k a b. ap (λ x. x ⊗ component R w k) (upper i k h b) ∙ zero_mul L (component R w k))
-          ∙ sum_zero L (length columns)
-          ∙ sym (component_left (zeros m) (apply R (record { rows = c; columns = columns }) w) i (subst (λ x. i < x) (sym (length-replicate m 𝟘)) h) ∙ component_zeros m i h))
+        ∙ sum_cast L (length lowered.columns) (length columns) (λ k b. entry R lowered i k ⊗ component R w k) (λ k b. 𝟘) (length-map columns (λ v. zeros m ++ v))
+        (λ k a b. ap (λ x. x ⊗ component R w k) (upper i k h b) ∙ zero_mul L (component R w k))
+        ∙ sum_zero L (length columns)
+        ∙ sym (component_left (zeros m) (apply R (record { rows = c; columns = columns }) w) i (subst (λ x. i < x) (sym (length-replicate m 𝟘)) h) ∙ component_zeros m i h))
         (λ i h. apply_component lowered w (m + i) (omega arith)
-          ∙ sum_cast L (length lowered.columns) (length columns) (λ k b. entry R lowered (m + i) k ⊗ component R w k) (λ k b. entry R (record { rows = c; columns = columns }) i k ⊗ component R w k)
-              (length-map columns (λ v. zeros m ++ v)) (λ k a b. ap (λ x. x ⊗ component R w k) (lower i k b))
-          ∙ sym (component_right m (zeros m) (apply R (record { rows = c; columns = columns }) w) i (length-replicate m 𝟘) ∙ apply_component (record { rows = c; columns = columns }) w i h))
+        ∙ sum_cast L (length lowered.columns) (length columns) (λ k b. entry R lowered (m + i) k ⊗ component R w k) (λ k b. entry R (record { rows = c; columns = columns }) i k ⊗ component R w k)
+        (length-map columns (λ v. zeros m ++ v)) (λ k a b. ap (λ x. x ⊗ component R w k) (lower i k b))
+        ∙ sym (component_right m (zeros m) (apply R (record { rows = c; columns = columns }) w) i (length-replicate m 𝟘) ∙ apply_component (record { rows = c; columns = columns }) w i h))
       where
         upper : (i k : ℕ) → i < m → k < length columns → get_or (get_or lowered.columns k []) i 𝟘 ≡ 𝟘
         upper i k h b = ap (λ v. get_or v i 𝟘) (lowered_column k b) ∙ get_or_append_left (zeros m) (get_or columns k []) 𝟘 i (subst (λ x. i < x) (sym (length-replicate m 𝟘)) h) ∙ get_or-replicate m i 𝟘 𝟘 h
@@ -170,10 +170,10 @@ module _ (R : Ring) (L : IsRing R) where
         (length-map (get_or (graph_matrix A).columns k []) φ ∙ column_length A k l)
         (column_length (entrywise R φ A) k (subst (λ x. k < x) (sym mapped_cols) l) ∙ ap₂ (λ x y. x + y) mapped_rows mapped_cols)
         (λ i h. column_component i k ∙ ap φ (entry_upper A i k h l) ∙ sym (mapped_entry i k h l)
-          ∙ sym (entry_upper (entrywise R φ A) i k (subst (λ x. i < x) (sym mapped_rows) h) (subst (λ x. k < x) (sym mapped_cols) l)))
+        ∙ sym (entry_upper (entrywise R φ A) i k (subst (λ x. i < x) (sym mapped_rows) h) (subst (λ x. k < x) (sym mapped_cols) l)))
         (λ i h. column_component (A.rows + i) k ∙ ap φ (entry_lower A i k h l) ∙ on_cond (eqb i k)
-          ∙ sym (ap (λ x. entry R (graph_generated (entrywise R φ A)) (x + i) k) (sym mapped_rows)
-            ∙ entry_lower (entrywise R φ A) i k (subst (λ x. i < x) (sym mapped_cols) h) (subst (λ x. k < x) (sym mapped_cols) l)))
+        ∙ sym (ap (λ x. entry R (graph_generated (entrywise R φ A)) (x + i) k) (sym mapped_rows)
+        ∙ entry_lower (entrywise R φ A) i k (subst (λ x. i < x) (sym mapped_cols) h) (subst (λ x. k < x) (sym mapped_cols) l)))
       where
         on_cond : (b : Bool) → φ (cond b 𝟙 𝟘) ≡ cond b 𝟙 𝟘
         on_cond true = on_one

@@ -92,10 +92,10 @@ module _ (p : Prime) (n : ℕ) (o : Order) where
             vector_zero : (b : ℕ × Monomial n) → Upper b → W d.vector b ≡ (gf p).zero
             vector_zero b up =
                 sym ((gf_laws p).one_mul (W d.vector b))
-              ∙ ap (λ x. (gf p).mul x (W d.vector b)) (sym d.inverse ∙ (gf_laws p).mul_comm d.factor (W d.vector h))
-              ∙ (gf_laws p).mul_assoc (W d.vector h) d.factor (W d.vector b)
-              ∙ ap ((gf p).mul (W d.vector h)) (sym (d.is b) ∙ z b up)
-              ∙ mul_zero (gf_laws p) (W d.vector h)
+                ∙ ap (λ x. (gf p).mul x (W d.vector b)) (sym d.inverse ∙ (gf_laws p).mul_comm d.factor (W d.vector h))
+                ∙ (gf_laws p).mul_assoc (W d.vector h) d.factor (W d.vector b)
+                ∙ ap ((gf p).mul (W d.vector h)) (sym (d.is b) ∙ z b up)
+                ∙ mul_zero (gf_laws p) (W d.vector h)
 
             split : d.vector ≡ zero_vector p n m ++ drop m d.vector
             split = below_of_upper p n o m c d.vector (image_length p n (m + c) o columns d.vector (basis.inside d.vector (contains_of_in d.is_member))) vector_zero
@@ -107,8 +107,11 @@ module _ (p : Prime) (n : ℕ) (o : Order) where
         -- the products of the columns below zeros are those of the columns, below zeros
         lowered_to : (w : List (Polynomial p n)) → InImage p n (generators p n (m + c) below_columns) (zero_vector p n m ++ w) → InImage p n (generators p n c C) w
         unfolding InImage polynomial_zero
-        lowered_to w (y, l, e) = (y, l ∙ length-map C (λ w. zero_vector p n m ++ w),
-            sym (append_injective (zeros P PL m) (zeros P PL m) w (apply P (generators p n c C) y) refl (sym e ∙ lowered_apply P PL m c C y)).1)
+        lowered_to w (y, l, e) = (
+          y,
+          l ∙ length-map C (λ w. zero_vector p n m ++ w),
+          sym (append_injective (zeros P PL m) (zeros P PL m) w (apply P (generators p n c C) y) refl (sym e ∙ lowered_apply P PL m c C y)).1,
+        )
 
         lowered_from : (w : List (Polynomial p n)) → InImage p n (generators p n c C) w → InImage p n (generators p n (m + c) below_columns) (zero_vector p n m ++ w)
         unfolding InImage polynomial_zero
@@ -127,7 +130,7 @@ module _ (p : Prime) (n : ℕ) (o : Order) where
             in_lowers : Span X (Generated p n (m + c) o below_columns) (W (zero_vector p n m ++ w))
             in_lowers = span_bind X (λ g l. lower_member g l)
                 (eliminate X (divided_monic p n (m + c) o members) basis_functions generated_finite Upper (upper_dec p n o m c) (λ a b na ub. inl (lower_level p n o m c a b na ub)) (λ t x up. up)
-                  (W (zero_vector p n m ++ w)) (span_of p n (m + c) o columns (zero_vector p n m ++ w) in_graph) (upper_zero p n o m c w))
+                (W (zero_vector p n m ++ w)) (span_of p n (m + c) o columns (zero_vector p n m ++ w) in_graph) (upper_zero p n o m c w))
 
         below_span : (g : Vect X) → Generated p n (m + c) o below_columns g → Span X (Generated p n (m + c) o columns) g
         below_span g (v, i, e) =
@@ -186,11 +189,16 @@ module _ (p : Prime) (n : ℕ) (o : Order) where
       unfolding Taken rest
       taken =
           let d = image_vector p n (m + c) o graph_columns difference_span in
-          let u = graph_to d.0 d.1 in
-          (u.0, (u.1, λ i h. ap (λ x. component P x i) (sym is)
-            ∙ component_sum p n o (m + c) (vector_of p n (m + c) t) (vector_of p n (m + c) r) d.0
-                (λ b. sum_back (gf_laws p) (V p n (m + c) o r b) (V p n (m + c) o t b) ∙ ap ((gf p).add (V p n (m + c) o r b)) (d.2 b)) i h
-            ∙ ap (λ x. P.add (component P (vector_of p n (m + c) r) i) (component P x i)) u.2))
+          let u = graph_to d.0 d.1 in (
+            u.0,
+            (
+              u.1,
+              λ i h. ap (λ x. component P x i) (sym is)
+                  ∙ component_sum p n o (m + c) (vector_of p n (m + c) t) (vector_of p n (m + c) r) d.0
+                  (λ b. sum_back (gf_laws p) (V p n (m + c) o r b) (V p n (m + c) o t b) ∙ ap ((gf p).add (V p n (m + c) o r b)) (d.2 b)) i h
+                  ∙ ap (λ x. P.add (component P (vector_of p n (m + c) r) i) (component P x i)) u.2,
+            ),
+          )
 
       -- where the upper block of the rest is zero, minus its lower block is a solution
       pub solution_of_rest : (w : List (Polynomial p n)) → vector_of p n (m + c) r ≡ zero_vector p n m ++ w → (length w ≡ c) × (vector_product p n A (vector_negative p n w) ≡ v)
@@ -211,19 +219,19 @@ module _ (p : Prime) (n : ℕ) (o : Order) where
           upper : v ≡ apply P A u
           upper = same_components P PL m v (apply P A u) fits (length-apply P A u) (λ i h.
               sym (component_left P PL v (zeros P PL c) i (subst (λ x. i < x) (sym fits) h))
-            ∙ taken.1.1 i (omega (arith, h))
-            ∙ ap₂ P.add (ap (λ x. component P x i) e ∙ component_left P PL (zeros P PL m) w i (subst (λ x. i < x) (sym (length-replicate m P.zero)) h) ∙ component_zeros P PL m i h)
-                (component_left P PL (apply P A u) u i (subst (λ x. i < x) (sym (length-apply P A u)) h))
-            ∙ PL.zero_add (component P (apply P A u) i))
+              ∙ taken.1.1 i (omega (arith, h))
+              ∙ ap₂ P.add (ap (λ x. component P x i) e ∙ component_left P PL (zeros P PL m) w i (subst (λ x. i < x) (sym (length-replicate m P.zero)) h) ∙ component_zeros P PL m i h)
+              (component_left P PL (apply P A u) u i (subst (λ x. i < x) (sym (length-apply P A u)) h))
+              ∙ PL.zero_add (component P (apply P A u) i))
 
           lower : u ≡ map P.neg w
           lower = same_components P PL c u (map P.neg w) taken.1.0 (length-map w P.neg ∙ size) (λ j h.
               neg_unique PL (component P w j) (component P u j) (sym (
-                sym (component_zeros P PL c j h)
+              sym (component_zeros P PL c j h)
               ∙ sym (component_right P PL m v (zeros P PL c) j fits)
               ∙ taken.1.1 (m + j) (omega (arith, h))
               ∙ ap₂ P.add (ap (λ x. component P x (m + j)) e ∙ component_right P PL m (zeros P PL m) w j (length-replicate m P.zero)) (component_right P PL m (apply P A u) u j (length-apply P A u))))
-            ∙ sym (component_map p n P.neg (neg_zero PL) w j))
+              ∙ sym (component_map p n P.neg (neg_zero PL) w j))
 
       -- where v is in the image, the upper block of an irreducible rest is zero
       module _ (irreducible : IsIrreducible ms r) (x : List (Polynomial p n)) (size : length x ≡ c) (solves : apply P A x ≡ v) where
@@ -238,7 +246,7 @@ module _ (p : Prime) (n : ℕ) (o : Order) where
         y_upper : (b : ℕ × Monomial n) → Upper b → Y b ≡ V p n (m + c) o r b
         unfolding Y
         y_upper b up = ap ((gf p).add ((gf p).mul ((gf p).neg (gf p).one) ((gf p).add ((gf p).mul ((gf p).neg (gf p).one) (V p n (m + c) o r b)) (V p n (m + c) o t b))))
-              (upper_same p n o m c v x (zero_vector p n c) fits b up ∙ ap (λ u. U u b) (sym is))
+            (upper_same p n o m c v x (zero_vector p n c) fits b up ∙ ap (λ u. U u b) (sym is))
             ∙ sym (diff_back (gf_laws p) (V p n (m + c) o r b) (V p n (m + c) o t b))
 
         head_low : (s : Term) (rs : List Term) (f : IsFalling p n (m + c) o (s ∷ rs)) → r ≡ s ∷ rs → ¬ (Upper (head_place p n (m + c) o (s ∷ rs) f))

@@ -104,9 +104,9 @@ module _ (p : Prime) (n m : ℕ) (o : Order) where
   head_from v l i a pos within hd = record {
     nonzero = λ z. hd.0 (zero_of_number (val p n m o v (m - i, a)) (val_coefficient v i a pos within ∙ z));
     greatest = λ j b nz e.
-      let w = component_within v l j b nz in
-      let bm : Monomial n = record { exponents = b; fits = exponents_fit (vector_component p n v j) b nz } in
-      nz (sym (val_coefficient v j bm w.0 w.1) ∙ number_of_zero (val p n m o v (m - j, bm))
+        let w = component_within v l j b nz in
+        let bm : Monomial n = record { exponents = b; fits = exponents_fit (vector_component p n v j) b nz } in
+        nz (sym (val_coefficient v j bm w.0 w.1) ∙ number_of_zero (val p n m o v (m - j, bm))
         (hd.1 (m - j, bm) (less_of_cmp o n m i j a bm within (cmp_flip o i j a.exponents b ∙ ap ordering_reverse e))));
   }
 

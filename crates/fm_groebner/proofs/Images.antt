@@ -39,10 +39,10 @@ module _ (n : ℕ) (K : Ring) (L : IsRing K) (is_zero : (c : K.Carrier) → Dec 
       → coeff (P.mul (monomial K is_zero n c a) f) b ≡ K.zero
   monomial_off c a b f l k off =
       ap (λ h. h b) (coeff_mul K L is_zero n (monomial K is_zero n c a) f)
-    ∙ splits_same_if K.add b (λ u v s.
-        ap (λ x. K.mul x (coeff f v)) (ap (λ h. h u) (coeff_monomial K L is_zero n c a l) ∙ single_other K c a u (λ e. off v (length_right s ∙ k) (IsSum-tuple_sum s ∙ ap (λ x. tuple_sum x v) e)))
-        ∙ zero_mul L (coeff f v))
-    ∙ splits_zero L b
+      ∙ splits_same_if K.add b (λ u v s.
+      ap (λ x. K.mul x (coeff f v)) (ap (λ h. h u) (coeff_monomial K L is_zero n c a l) ∙ single_other K c a u (λ e. off v (length_right s ∙ k) (IsSum-tuple_sum s ∙ ap (λ x. tuple_sum x v) e)))
+      ∙ zero_mul L (coeff f v))
+      ∙ splits_zero L b
 
 module _ {n : ℕ} (O : MonomialOrder n) (K : Ring) (L : IsRing K) (is_zero : (c : K.Carrier) → Dec (c ≡ K.zero)) (m : ℕ) where
   abbrev R : Ring
@@ -100,19 +100,19 @@ module _ {n : ℕ} (O : MonomialOrder n) (K : Ring) (L : IsRing K) (is_zero : (c
     product_span j h = poly_induction K L is_zero n (λ f. Span S Values (product_value j f))
         (lin_zero (λ b. ap (λ x. coeff x b.1.exponents) (mul_zero RL (column j b.0)) ∙ coeff_nil b.1.exponents))
         (λ c a f l ih. lin_comb c
-          (lin_gen (record { by = record { exponents = a; fits = l }; member = value O K L is_zero m (get_or gens j []); in_A = (get_or gens j [], in_get_or gens j [] h, λ b. refl); is = λ b. refl }))
-          ih
-          (λ b. ap (λ x. coeff x b.1.exponents) (RL.mul_add (column j b.0) (mono c a) f)
-              ∙ coeff_sum (R.mul (column j b.0) (mono c a)) (R.mul (column j b.0) f) b.1.exponents
-              ∙ ap (λ x. K.add x (product_value j f b)) (times_monomial c (record { exponents = a; fits = l }) (get_or gens j []) b)))
+        (lin_gen (record { by = record { exponents = a; fits = l }; member = value O K L is_zero m (get_or gens j []); in_A = (get_or gens j [], in_get_or gens j [] h, λ b. refl); is = λ b. refl }))
+        ih
+        (λ b. ap (λ x. coeff x b.1.exponents) (RL.mul_add (column j b.0) (mono c a) f)
+        ∙ coeff_sum (R.mul (column j b.0) (mono c a)) (R.mul (column j b.0) f) b.1.exponents
+        ∙ ap (λ x. K.add x (product_value j f b)) (times_monomial c (record { exponents = a; fits = l }) (get_or gens j []) b)))
 
     partial_span : (c : ℕ) → c ≤ length gens → (f : ℕ → Poly K n) → Span S Values (partial_value c f)
     unfolding partial finite_sum
     partial_span zero h f = lin_zero (λ b. coeff_nil b.1.exponents)
     partial_span (suc c) h f = lin_comb K.one (product_span c h (f c)) (partial_span c (omega arith) f)
         (λ b. coeff_sum (partial c f b.0) (R.mul (column c b.0) (f c)) b.1.exponents
-            ∙ L.add_comm (partial_value c f b) (product_value c (f c) b)
-            ∙ ap (λ x. K.add x (partial_value c f b)) (sym (L.one_mul (product_value c (f c) b))))
+        ∙ L.add_comm (partial_value c f b) (product_value c (f c) b)
+        ∙ ap (λ x. K.add x (partial_value c f b)) (sym (L.one_mul (product_value c (f c) b))))
 
     -- ---- from the span to a combination
     partial_zero : (c : ℕ) (k : ℕ) → partial c (λ j. R.zero) k ≡ R.zero
@@ -158,9 +158,9 @@ module _ {n : ℕ} (O : MonomialOrder n) (K : Ring) (L : IsRing K) (is_zero : (c
     partial_combined c f g zero b = coeff_nil b.1.exponents ∙ sym (ap₂ (λ x y. K.add (K.mul c x) y) (coeff_nil b.1.exponents) (coeff_nil b.1.exponents) ∙ ap (λ x. K.add x K.zero) (mul_zero L c) ∙ L.zero_add K.zero)
     partial_combined c f g (suc i) b =
         coeff_sum (partial i (combined c f g) b.0) (R.mul (column i b.0) (combined c f g i)) b.1.exponents
-      ∙ ap₂ K.add (partial_combined c f g i b) (product_combined c (column i b.0) (f i) (g i) b.1.exponents)
-      ∙ spread c (partial_value i f b) (product_value i (f i) b) (partial_value i g b) (product_value i (g i) b)
-      ∙ sym (ap₂ (λ x y. K.add (K.mul c x) y) (coeff_sum (partial i f b.0) (R.mul (column i b.0) (f i)) b.1.exponents) (coeff_sum (partial i g b.0) (R.mul (column i b.0) (g i)) b.1.exponents))
+        ∙ ap₂ K.add (partial_combined c f g i b) (product_combined c (column i b.0) (f i) (g i) b.1.exponents)
+        ∙ spread c (partial_value i f b) (product_value i (f i) b) (partial_value i g b) (product_value i (g i) b)
+        ∙ sym (ap₂ (λ x y. K.add (K.mul c x) y) (coeff_sum (partial i f b.0) (R.mul (column i b.0) (f i)) b.1.exponents) (coeff_sum (partial i g b.0) (R.mul (column i b.0) (g i)) b.1.exponents))
 
     Combination : Vect S → Type 0
     Combination u = (f : ℕ → Poly K n) × ((b : ℕ × Monomial n) → u b ≡ partial_value (length gens) f b)
@@ -171,13 +171,16 @@ module _ {n : ℕ} (O : MonomialOrder n) (K : Ring) (L : IsRing K) (is_zero : (c
     combination_of (lin_gen {v = u} g) = at_index (get_or_in [] g.in_A.1)
       where
         at_index : ((j : ℕ) × (j < length gens) × (get_or gens j [] ≡ g.in_A.0)) → Combination u
-        at_index r = (only r.0 (mono K.one g.by.exponents), λ b.
-            g.is b
-          ∙ shift_eq S g.by g.member (value O K L is_zero m g.in_A.0) g.in_A.2 b
-          ∙ sym (L.one_mul (shift S g.by (value O K L is_zero m g.in_A.0) b))
-          ∙ sym (times_monomial K.one g.by g.in_A.0 b)
-          ∙ ap (λ v. coeff (R.mul (component_at O K L is_zero m v b.0) (mono K.one g.by.exponents)) b.1.exponents) (sym r.2)
-          ∙ ap (λ x. coeff x b.1.exponents) (sym (partial_only (length gens) r.0 b.0 (mono K.one g.by.exponents) r.1)))
+        at_index r = (
+          only r.0 (mono K.one g.by.exponents),
+          λ b.
+              g.is b
+              ∙ shift_eq S g.by g.member (value O K L is_zero m g.in_A.0) g.in_A.2 b
+              ∙ sym (L.one_mul (shift S g.by (value O K L is_zero m g.in_A.0) b))
+              ∙ sym (times_monomial K.one g.by g.in_A.0 b)
+              ∙ ap (λ v. coeff (R.mul (component_at O K L is_zero m v b.0) (mono K.one g.by.exponents)) b.1.exponents) (sym r.2)
+              ∙ ap (λ x. coeff x b.1.exponents) (sym (partial_only (length gens) r.0 b.0 (mono K.one g.by.exponents) r.1)),
+        )
     combination_of (lin_comb {u = u} {w = w} {v = v} c p q e) =
         let f = combination_of p in let g = combination_of q in
         (combined c f.0 g.0, λ b. e b ∙ ap₂ (λ x y. K.add (K.mul c x) y) (f.1 b) (g.1 b) ∙ sym (partial_combined c f.0 g.0 (length gens) b))
@@ -194,7 +197,7 @@ module _ {n : ℕ} (O : MonomialOrder n) (K : Ring) (L : IsRing K) (is_zero : (c
       | yes l ↦ component_inside O K L is_zero m k (apply R generated w) l
           ∙ get_or-listed m (m - suc k) R.zero (λ i. finite_sum R (length gens) (λ j h. R.mul (entry R generated i j) (component R w j))) (smaller l)
           ∙ sum_ext RL (length gens) (λ j h. R.mul (entry R generated (m - suc k) j) (component R w j)) (λ j h. R.mul (column j k) (f j))
-              (λ j h. ap₂ R.mul (sym (component_inside O K L is_zero m k (get_or gens j []) l)) (same j h))
+          (λ j h. ap₂ R.mul (sym (component_inside O K L is_zero m k (get_or gens j []) l)) (same j h))
       | no w' ↦ component_outside O K L is_zero m k (apply R generated w) w'
           ∙ sym (sum_ext RL (length gens) (λ j h. R.mul (column j k) (f j)) (λ j h. R.zero) (λ j h. ap (λ x. R.mul x (f j)) (component_outside O K L is_zero m k (get_or gens j []) w') ∙ zero_mul RL (f j)) ∙ sum_zero RL (length gens))
     ]
@@ -214,9 +217,12 @@ module _ {n : ℕ} (O : MonomialOrder n) (K : Ring) (L : IsRing K) (is_zero : (c
     image_of_span v l s = from (combination_of s)
       where
         from : Combination (value O K L is_zero m v) → InListImage R generated v
-        from c = (listed (length gens) c.0, length-listed (length gens) c.0,
-            same_vector O K L is_zero m (apply R generated (listed (length gens) c.0)) v (length-apply R generated (listed (length gens) c.0)) l
-              (λ b. value_apply (listed (length gens) c.0) c.0 (λ j h. get_or-listed (length gens) j R.zero c.0 h) b ∙ sym (c.1 b)))
+        from c = (
+          listed (length gens) c.0,
+          length-listed (length gens) c.0,
+          same_vector O K L is_zero m (apply R generated (listed (length gens) c.0)) v (length-apply R generated (listed (length gens) c.0)) l
+              (λ b. value_apply (listed (length gens) c.0) c.0 (λ j h. get_or-listed (length gens) j R.zero c.0 h) b ∙ sym (c.1 b)),
+        )
 
     -- each vector of the span comes from the image
     pub vector_of_span : {u : Vect S} → Span S Values u → (v : List (Poly K n)) × InListImage R generated v × ((b : ℕ × Monomial n) → u b ≡ value O K L is_zero m v b)
@@ -224,5 +230,8 @@ module _ {n : ℕ} (O : MonomialOrder n) (K : Ring) (L : IsRing K) (is_zero : (c
     vector_of_span {u} s = from (combination_of s)
       where
         from : Combination u → (v : List (Poly K n)) × InListImage R generated v × ((b : ℕ × Monomial n) → u b ≡ value O K L is_zero m v b)
-        from c = (apply R generated (listed (length gens) c.0), (listed (length gens) c.0, length-listed (length gens) c.0, refl),
-            λ b. c.1 b ∙ sym (value_apply (listed (length gens) c.0) c.0 (λ j h. get_or-listed (length gens) j R.zero c.0 h) b))
+        from c = (
+          apply R generated (listed (length gens) c.0),
+          (listed (length gens) c.0, length-listed (length gens) c.0, refl),
+          λ b. c.1 b ∙ sym (value_apply (listed (length gens) c.0) c.0 (λ j h. get_or-listed (length gens) j R.zero c.0 h) b),
+        )

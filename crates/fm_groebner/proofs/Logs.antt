@@ -82,7 +82,7 @@ module _ (p : Prime) (n m : ℕ) (o : Order) (inputs : List (List Term)) where
       → Good X (Members p n m o ms) (V p n m o x) (head_place p n m o x f) (V p n m o y) (head_place p n m o y f') → GoodAt ms a b
   good_at {ms} {x = x} i f j f' base g h g' h' mi mj =
       at_number p n m o i f (λ u k. Good X (Members p n m o ms) u k g' h')
-        (at_number p n m o j f' (λ u k. Good X (Members p n m o ms) (V p n m o x) (head_place p n m o x f) u k) base mj) mi
+      (at_number p n m o j f' (λ u k. Good X (Members p n m o ms) (V p n m o x) (head_place p n m o x f) u k) base mj) mi
 
   abbrev monomial_of : (t : Term) → Fits p n m o t → Monomial n
   monomial_of t f = record { exponents = t.exponents; fits = f.exponents }
@@ -103,9 +103,9 @@ module _ (p : Prime) (n m : ℕ) (o : Order) (inputs : List (List Term)) where
     s_vector_is : (v : List Term) → IsSVector p n m o t u ts us v → (b : ℕ × Monomial n) → s_vector b ≡ V p n m o v b
     s_vector_is v sv b = sym (
         taken_away p n m o v (multiple_terms p 1 (difference (maximum left right) left).exponents (t ∷ ts)) (u ∷ us) 1 (difference (maximum left right) right) (all_fit p n m o (u ∷ us) fu) sv.is b
-      ∙ ap ((gf p).add ((gf p).mul ((gf p).neg (gf p).one) (shift X (difference (maximum left right) right) (V p n m o (u ∷ us)) b)))
-          (val_multiple p n m o 1 (difference (maximum left right) left) (t ∷ ts) (all_fit p n m o (t ∷ ts) ft) b
-            ∙ (gf_laws p).one_mul (shift X (difference (maximum left right) left) (V p n m o (t ∷ ts)) b)))
+        ∙ ap ((gf p).add ((gf p).mul ((gf p).neg (gf p).one) (shift X (difference (maximum left right) right) (V p n m o (u ∷ us)) b)))
+        (val_multiple p n m o 1 (difference (maximum left right) left) (t ∷ ts) (all_fit p n m o (t ∷ ts) ft) b
+        ∙ (gf_laws p).one_mul (shift X (difference (maximum left right) left) (V p n m o (t ∷ ts)) b)))
 
     -- a pair whose S-vector was taken up is good
     pair_good : {ms more : List (List Term)} {by : List ℕ} {keep : Bool} {v r : List Term} {a b : ℕ} → AllMonic p n m o ms → IsMonic (t ∷ ts) → IsMonic (u ∷ us)
@@ -114,29 +114,29 @@ module _ (p : Prime) (n m : ℕ) (o : Order) (inputs : List (List Term)) where
     pair_good {ms} {r = r} {a = a} {b = b} well mt mu i j sv by_red ke =
         let red = reduces_from (s_vector_is _ sv) (reduces_of_by p n m o well by_red sv.falls) in
         good_of_reduces X (members_monic p n m o ms) (λ g h k. (k.0, kept_member p n m o ke k.0 g h k.1))
-          (V p n m o (t ∷ ts)) (head_place p n m o (t ∷ ts) ft) (V p n m o (u ∷ us)) (head_place p n m o (u ∷ us) fu)
-          (difference (maximum left right) left) (difference (maximum left right) right) (V p n m o r) (a, member_at ft mt i) (b, member_at fu mu j) heads_lcm red
-          (kept_low p n m o ke (reduces_falling p n m o by_red sv.falls) (X.◌•◌ (difference (maximum left right) left) (head_place p n m o (t ∷ ts) ft))
-            (reduces_in X (members_monic p n m o ms) (below_segment X (X.◌•◌ (difference (maximum left right) left) (head_place p n m o (t ∷ ts) ft))) red
-              (s_vector_below X (members_monic p n m o ms) (V p n m o (t ∷ ts)) (head_place p n m o (t ∷ ts) ft) (V p n m o (u ∷ us)) (head_place p n m o (u ∷ us) fu)
-                (difference (maximum left right) left) (difference (maximum left right) right) (a, member_at ft mt i) (b, member_at fu mu j) heads_lcm.meets)))
+        (V p n m o (t ∷ ts)) (head_place p n m o (t ∷ ts) ft) (V p n m o (u ∷ us)) (head_place p n m o (u ∷ us) fu)
+        (difference (maximum left right) left) (difference (maximum left right) right) (V p n m o r) (a, member_at ft mt i) (b, member_at fu mu j) heads_lcm red
+        (kept_low p n m o ke (reduces_falling p n m o by_red sv.falls) (X.◌•◌ (difference (maximum left right) left) (head_place p n m o (t ∷ ts) ft))
+        (reduces_in X (members_monic p n m o ms) (below_segment X (X.◌•◌ (difference (maximum left right) left) (head_place p n m o (t ∷ ts) ft))) red
+        (s_vector_below X (members_monic p n m o ms) (V p n m o (t ∷ ts)) (head_place p n m o (t ∷ ts) ft) (V p n m o (u ∷ us)) (head_place p n m o (u ∷ us) fu)
+        (difference (maximum left right) left) (difference (maximum left right) right) (a, member_at ft mt i) (b, member_at fu mu j) heads_lcm.meets)))
 
     -- the S-vector lies in the span
     pub s_vector_span : {ms : List (List Term)} {v : List Term} {a b : ℕ} → ((g : Vect X) (h : ℕ × Monomial n) → Members p n m o ms g h → Span X Inputs g) → IsMonic (t ∷ ts) → IsMonic (u ∷ us)
         → IsNumber ms a (t ∷ ts) → IsNumber ms b (u ∷ us) → IsSVector p n m o t u ts us v → Span X Inputs (V p n m o v)
     s_vector_span {v = v} {a = a} {b = b} members mt mu i j sv =
         lin_comb ((gf p).neg (gf p).one)
-          (span_shift X (difference (maximum left right) right) (members (V p n m o (u ∷ us)) (head_place p n m o (u ∷ us) fu) (b, member_at fu mu j)))
-          (span_shift X (difference (maximum left right) left) (members (V p n m o (t ∷ ts)) (head_place p n m o (t ∷ ts) ft) (a, member_at ft mt i)))
-          (λ c. sym (s_vector_is v sv c))
+        (span_shift X (difference (maximum left right) right) (members (V p n m o (u ∷ us)) (head_place p n m o (u ∷ us) fu) (b, member_at fu mu j)))
+        (span_shift X (difference (maximum left right) left) (members (V p n m o (t ∷ ts)) (head_place p n m o (t ∷ ts) ft) (a, member_at ft mt i)))
+        (λ c. sym (s_vector_is v sv c))
 
     -- what divides the least common multiple of two heads divides each common multiple
     lcm_divided : (f : Term) (fs : List Term) (ff : IsFalling p n m o (f ∷ fs)) → DividesLcm f t u → (a b : Monomial n)
         → X.◌•◌ a (head_place p n m o (t ∷ ts) ft) ≡ X.◌•◌ b (head_place p n m o (u ∷ us) fu) → (i : Monomial n) × (X.◌•◌ i (head_place p n m o (f ∷ fs) ff) ≡ X.◌•◌ a (head_place p n m o (t ∷ ts) ft))
     lcm_divided f fs ff d = divides_common X {d = difference (maximum left right) (monomial_of f (fits_of p n m o f ff.0))} heads_lcm
         (same_place (ap (λ x. m - x) d.1)
-          (times_comm (difference (maximum left right) (monomial_of f (fits_of p n m o f ff.0))) (monomial_of f (fits_of p n m o f ff.0))
-            ∙ times_difference (monomial_of f (fits_of p n m o f ff.0)) (maximum left right) d.2 ∙ sym (lcm_left left right)))
+        (times_comm (difference (maximum left right) (monomial_of f (fits_of p n m o f ff.0))) (monomial_of f (fits_of p n m o f ff.0))
+        ∙ times_difference (monomial_of f (fits_of p n m o f ff.0)) (maximum left right) d.2 ∙ sym (lcm_left left right)))
 
   -- ---- the steps
   start_invariant : Invariant [] [] []
@@ -181,15 +181,14 @@ module _ (p : Prime) (n m : ℕ) (o : Order) (inputs : List (List Term)) where
       record {
         well = kept_monic p n m o ke (reduces_falling p n m o red sv.falls) inv.well;
         members = kept_span ke (reduces_falling p n m o red sv.falls)
-          (rest_span inv.well red sv.falls ke inv.members (s_vector_span t u ts us wt.0 wu.0 sv.one_component inv.members wt.1 wu.1 i j sv)) inv.members;
+            (rest_span inv.well red sv.falls ke inv.members (s_vector_span t u ts us wt.0 wu.0 sv.one_component inv.members wt.1 wu.1 i j sv)) inv.members;
         covered = λ k w c i'. rep_more X (λ g h q. (q.0, kept_member p n m o ke q.0 g h q.1)) (inv.covered k w c i');
-        good = with_pair treated a b
-          (
-            omega (arith, kept_length p n m o ke, number_within i),
-            omega (arith, kept_length p n m o ke, number_within j),
-            good_at (kept_number p n m o ke i) wt.0 (kept_number p n m o ke j) wu.0 (pair_good t u ts us wt.0 wu.0 sv.one_component inv.well wt.1 wu.1 i j sv red ke),
-          )
-          (λ c d k. good_more ke c d (inv.good c d k));
+        good = with_pair treated a b (
+          omega (arith, kept_length p n m o ke, number_within i),
+          omega (arith, kept_length p n m o ke, number_within j),
+          good_at (kept_number p n m o ke i) wt.0 (kept_number p n m o ke j) wu.0 (pair_good t u ts us wt.0 wu.0 sv.one_component inv.well wt.1 wu.1 i j sv red ke),
+        )
+            (λ c d k. good_more ke c d (inv.good c d k));
       }
 
   treated_good : {ms : List (List Term)} {taken : List ℕ} {treated : List (ℕ × ℕ)} → Invariant ms taken treated → (a b : ℕ) → IsTreated treated a b → GoodAt ms a b
@@ -207,16 +206,15 @@ module _ (p : Prime) (n m : ℕ) (o : Order) (inputs : List (List Term)) where
         well = inv.well;
         members = inv.members;
         covered = inv.covered;
-        good = with_pair treated a b
-          (
-            number_within i,
-            number_within j,
-            good_at i wt.0 j wu.0 (good_chain X (V p n m o (t ∷ ts)) (head_place p n m o (t ∷ ts) wt.0) (V p n m o (u ∷ us)) (head_place p n m o (u ∷ us) wu.0) (V p n m o (f ∷ fs)) (head_place p n m o (f ∷ fs) wf.0)
+        good = with_pair treated a b (
+          number_within i,
+          number_within j,
+          good_at i wt.0 j wu.0 (good_chain X (V p n m o (t ∷ ts)) (head_place p n m o (t ∷ ts) wt.0) (V p n m o (u ∷ us)) (head_place p n m o (u ∷ us) wu.0) (V p n m o (f ∷ fs)) (head_place p n m o (f ∷ fs) wf.0)
               (lcm_divided t u ts us wt.0 wu.0 d.0 f fs wf.0 d)
               (treated_good inv a k ak (V p n m o (t ∷ ts)) (head_place p n m o (t ∷ ts) wt.0) (V p n m o (f ∷ fs)) (head_place p n m o (f ∷ fs) wf.0) (member_at wt.0 wt.1 i) (member_at wf.0 wf.1 l))
               (treated_good inv k b kb (V p n m o (f ∷ fs)) (head_place p n m o (f ∷ fs) wf.0) (V p n m o (u ∷ us)) (head_place p n m o (u ∷ us) wu.0) (member_at wf.0 wf.1 l) (member_at wu.0 wu.1 j))),
-          )
-          inv.good;
+        )
+            inv.good;
       }
 
   invariant_of_run : {log : List Entry} {ms : List (List Term)} {taken : List ℕ} {treated : List (ℕ × ℕ)} → FreeRun p n m o inputs log ms taken treated → Invariant ms taken treated
@@ -264,6 +262,11 @@ module _ (p : Prime) (n m : ℕ) (o : Order) (inputs : List (List Term)) where
       let k = number_of_in x.1 in
       lin_eq X (inv.covered k.0 x.0 (complete.all_taken k.0 x.0 k.1) k.1) (λ b. e b ∙ ap (λ u. val p n m o u b) (sym x.2))
 
+  -- the members of any log are monic and lie in the span of the inputs
+  pub members_of_run : {log : List Entry} {ms : List (List Term)} {taken : List ℕ} {treated : List (ℕ × ℕ)} → FreeRun p n m o inputs log ms taken treated
+      → AllMonic p n m o ms × ((g : Vect X) (h : ℕ × Monomial n) → Members p n m o ms g h → Span X Inputs g)
+  members_of_run run = let inv = invariant_of_run run in (inv.well, inv.members)
+
   -- the members of a complete log are monic, and a Gröbner basis of the span of the inputs
   pub groebner_of_log : {log : List Entry} {ms : List (List Term)} {taken : List ℕ} {treated : List (ℕ × ℕ)} → FreeRun p n m o inputs log ms taken treated → IsComplete inputs ms taken treated
       → AllMonic p n m o ms × IsGroebner X (Members p n m o ms) Inputs
@@ -274,7 +277,7 @@ module _ (p : Prime) (n m : ℕ) (o : Order) (inputs : List (List Term)) where
 -- Buchberger's criterion: where the S-vectors of all pairs with heads in one component reduce to zero, monic members are a Gröbner basis of what they span
 module _ (p : Prime) (n m : ℕ) (o : Order) {ms : List (List Term)} (well : AllMonic p n m o ms)
     (reduces : (a b : ℕ) (t u : Term) (ts us : List Term) → a < b → IsNumber ms a (t ∷ ts) → IsNumber ms b (u ∷ us) → t.component ≡ u.component
-      → (v : List Term) × (by : List ℕ) × IsSVector p n m o t u ts us v × ReducesBy p n m o ms by v []) where
+    → (v : List Term) × (by : List ℕ) × IsSVector p n m o t u ts us v × ReducesBy p n m o ms by v []) where
   pub groebner_of_s_vectors : IsGroebner (T p n m o) (Members p n m o ms) (Inputs p n m o ms)
   groebner_of_s_vectors = groebner_of_good_pairs (T p n m o) (members_monic p n m o ms) (pairs_good p n m o ms good) members covered
     where
@@ -297,4 +300,4 @@ module _ (p : Prime) (n m : ℕ) (o : Order) {ms : List (List Term)} (well : All
           let k = number_of_in x.1 in
           let w = well k.0 x.0 k.1 in
           lin_eq (T p n m o) (rep_member (T p n m o) one (V p n m o x.0) (head_place p n m o x.0 w.0) (k.0, member_at w.0 w.1 k.1) tt)
-            (λ b. e b ∙ ap (λ u. val p n m o u b) (sym x.2) ∙ sym (shift_one (T p n m o) (V p n m o x.0) b))
+          (λ b. e b ∙ ap (λ u. val p n m o u b) (sym x.2) ∙ sym (shift_one (T p n m o) (V p n m o x.0) b))

@@ -37,10 +37,10 @@ module _ (p : Prime) (n m : ℕ) (o : Order) where
   rescaled : (c h f x y : (gf p).Carrier) → (gf p).mul f h ≡ (gf p).one → y ≡ (gf p).mul f x → (gf p).mul ((gf p).neg c) x ≡ (gf p).mul ((gf p).neg ((gf p).mul c h)) y
   rescaled c h f x y e q =
       neg_mul (gf_laws p) c x
-    ∙ ap (gf p).neg (
-        ap ((gf p).mul c) (sym ((gf_laws p).one_mul x) ∙ ap (λ z. (gf p).mul z x) (sym e ∙ (gf_laws p).mul_comm f h) ∙ (gf_laws p).mul_assoc h f x ∙ ap ((gf p).mul h) (sym q))
-        ∙ sym ((gf_laws p).mul_assoc c h y))
-    ∙ sym (neg_mul (gf_laws p) ((gf p).mul c h) y)
+      ∙ ap (gf p).neg (
+      ap ((gf p).mul c) (sym ((gf_laws p).one_mul x) ∙ ap (λ z. (gf p).mul z x) (sym e ∙ (gf_laws p).mul_comm f h) ∙ (gf_laws p).mul_assoc h f x ∙ ap ((gf p).mul h) (sym q))
+      ∙ sym ((gf_laws p).mul_assoc c h y))
+      ∙ sym (neg_mul (gf_laws p) ((gf p).mul c h) y)
 
   module _ (ms : List (List Term)) (falling : (x : List Term) → Contains ms x → IsFalling p n m o x) where
     pub reduces_divided : {by : List ℕ} {v r : List Term} → ReducesBy p n m o ms by v r → IsFalling p n m o v → Reduces X (Divided p n m o (vectors_of p n m ms)) (V p n m o v) (V p n m o r)
@@ -57,12 +57,12 @@ module _ (p : Prime) (n m : ℕ) (o : Order) where
         let hd = head_of_terms p n m o t ts w in
         let g = inverse_of p n m o h hd.0 in
         step ((gf p).mul (number p n m o c) h) a (divided_by p n m o g.0 (vector_of p n m (t ∷ ts))) (place_of p n m o t ft)
-          (divide p n m o (vectors_of p n m ms) (vector_of p n m (t ∷ ts)) (in_map (vector_of p n m) (in_of_number i)) (place_of p n m o t ft) hd g.0 g.1)
-          (λ z. number_nonzero p n m o s.coefficient f.0.3 f.0.4 (sym (val_head p n m o s vs f) ∙ ap (V p n m o (s ∷ vs)) (sym meets) ∙ z))
-          (λ b. taken_away p n m o v (s ∷ vs) (t ∷ ts) c a (all_fit p n m o (t ∷ ts) w) q b
-            ∙ ap (λ x. (gf p).add x (V p n m o (s ∷ vs) b)) (rescaled (number p n m o c) h g.0 (shift X a (V p n m o (t ∷ ts)) b) (shift X a (divided_by p n m o g.0 (vector_of p n m (t ∷ ts))) b) g.1
-              (shift_scaled a g.0 (divided_by p n m o g.0 (vector_of p n m (t ∷ ts))) (V p n m o (t ∷ ts)) (λ y. refl) b)))
-          (reduces_divided red f')
+        (divide p n m o (vectors_of p n m ms) (vector_of p n m (t ∷ ts)) (in_map (vector_of p n m) (in_of_number i)) (place_of p n m o t ft) hd g.0 g.1)
+        (λ z. number_nonzero p n m o s.coefficient f.0.3 f.0.4 (sym (val_head p n m o s vs f) ∙ ap (V p n m o (s ∷ vs)) (sym meets) ∙ z))
+        (λ b. taken_away p n m o v (s ∷ vs) (t ∷ ts) c a (all_fit p n m o (t ∷ ts) w) q b
+        ∙ ap (λ x. (gf p).add x (V p n m o (s ∷ vs) b)) (rescaled (number p n m o c) h g.0 (shift X a (V p n m o (t ∷ ts)) b) (shift X a (divided_by p n m o g.0 (vector_of p n m (t ∷ ts))) b) g.1
+        (shift_scaled a g.0 (divided_by p n m o g.0 (vector_of p n m (t ∷ ts))) (V p n m o (t ∷ ts)) (λ y. refl) b)))
+        (reduces_divided red f')
 
     -- a head that a divided member's head divides is divisible by the head of a member
     pub divides_listed : (s : Term) (rs : List Term) (f : IsFalling p n m o (s ∷ rs)) → IsIrreducible ms (s ∷ rs) → ¬ (Divides X (Divided p n m o (vectors_of p n m ms)) (head_place p n m o (s ∷ rs) f))
@@ -79,7 +79,7 @@ module _ (p : Prime) (n m : ℕ) (o : Order) where
             irreducible t ts c (
               omega (arith, level, inside, ft.within),
               subst (TupleDivides t.exponents) (ap (λ z. z.1.exponents) e)
-                (subst (λ z. TupleDivides t.exponents z.exponents) (times_comm (head_place p n m o (t ∷ ts) g).1 d.by) (divides_times (head_place p n m o (t ∷ ts) g).1 d.by)),
+                  (subst (λ z. TupleDivides t.exponents z.exponents) (times_comm (head_place p n m o (t ∷ ts) g).1 d.by) (divides_times (head_place p n m o (t ∷ ts) g).1 d.by)),
             )
 
         at_member : (x : List Term) × In ms x × (vector_of p n m x ≡ d.in_G.vector) → ⊥
@@ -94,8 +94,7 @@ module _ (p : Prime) (n m : ℕ) (o : Order) where
         → InImage p n (generators p n m gens) (vector_of p n m v) ↔ (r ≡ [])
     membership gens basis {by} {v} {r} red f i =
         let fr = reduces_falling p n m o red f in
-        let iff = member_iff X (groebner_of_basis p n m o (vectors_of p n m ms) gens basis) (reduces_divided red f) (irreducible_end r fr i) in
-        (
+        let iff = member_iff X (groebner_of_basis p n m o (vectors_of p n m ms) gens basis) (reduces_divided red f) (irreducible_end r fr i) in (
           λ im. empty_of_nil p n m o r fr (iff.0 (span_of p n m o gens (vector_of p n m v) im)),
           λ e. image_of p n m o gens (vector_of p n m v) (length_vector p n m v) (iff.1 (subst (λ z. IsNil X (V p n m o z)) (sym e) (val_nil p n m o))),
         )

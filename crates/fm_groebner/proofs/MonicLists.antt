@@ -67,7 +67,7 @@ module _ (p : Prime) (n m : ℕ) (o : Order) where
   pub taken_away : (v w g : List Term) (c : ℕ) (a : Monomial n) → AllFit p n m o g → vector_of p n m (v ++ multiple_terms p c a.exponents g) ≡ vector_of p n m w
       → (b : ℕ × Monomial n) → V v b ≡ (gf p).add ((gf p).mul ((gf p).neg (num c)) (shift T a (V g) b)) (V w b)
   taken_away v w g c a f e b = less_sum (V v b) ((gf p).mul (num c) (shift T a (V g) b)) (V w b)
-        (sym (val_append p n m o v (multiple_terms p c a.exponents g) b ∙ ap ((gf p).add (V v b)) (val_multiple p n m o c a g f b)) ∙ ap (λ u. val p n m o u b) e)
+      (sym (val_append p n m o v (multiple_terms p c a.exponents g) b ∙ ap ((gf p).add (V v b)) (val_multiple p n m o c a g f b)) ∙ ap (λ u. val p n m o u b) e)
       ∙ ap (λ x. (gf p).add x (V w b)) (sym (neg_mul (gf_laws p) (num c) (shift T a (V g) b)))
 
   pub reduces_falling : {ms : List (List Term)} {by : List ℕ} {v r : List Term} → ReducesBy p n m o ms by v r → IsFalling p n m o v → IsFalling p n m o r
@@ -85,15 +85,15 @@ module _ (p : Prime) (n m : ℕ) (o : Order) where
       let a = difference of at in
       let meets : ◌≡◌ {A = ℕ × Monomial n} (m - t.component, a · at) (m - s.component, of) = same_place (ap (λ x. m - x) d.0) (times_comm a at ∙ times_difference at of d.1) in
       step (num c) a (V (t ∷ ts)) (place_of p n m o t ft) (k, member_at w.0 w.1 i)
-        (λ z. number_nonzero p n m o s.coefficient f.0.3 f.0.4 (sym (val_head p n m o s vs f) ∙ ap (V (s ∷ vs)) (sym meets) ∙ z))
-        (taken_away v (s ∷ vs) (t ∷ ts) c a (all_fit p n m o (t ∷ ts) w.0) q)
-        (reduces_of_by well red f')
+      (λ z. number_nonzero p n m o s.coefficient f.0.3 f.0.4 (sym (val_head p n m o s vs f) ∙ ap (V (s ∷ vs)) (sym meets) ∙ z))
+      (taken_away v (s ∷ vs) (t ∷ ts) c a (all_fit p n m o (t ∷ ts) w.0) q)
+      (reduces_of_by well red f')
 
   -- ---- keeping a rest
   -- the product of an invertible number and one that is not zero is not zero
   scaled_positive : (c s d : ℕ) → (c * s) % prime_value p ≡ 1 → 0 < d → d < prime_value p → 0 < (c * d) % prime_value p
   scaled_positive c s d e pos h = positive (λ z. number_nonzero p n m o d pos h (
-        sym ((gf_laws p).one_mul (num d))
+      sym ((gf_laws p).one_mul (num d))
       ∙ ap (λ x. (gf p).mul x (num d)) (sym (ap num e) ∙ number_times p n m o c s)
       ∙ ap (λ x. (gf p).mul x (num d)) ((gf_laws p).mul_comm (num c) (num s))
       ∙ (gf_laws p).mul_assoc (num s) (num c) (num d)
@@ -145,7 +145,7 @@ module _ (p : Prime) (n m : ℕ) (o : Order) where
   back_of : (c : ℕ) (s : Term) (r : List Term) → (c * s.coefficient) % prime_value p ≡ 1 → IsFalling p n m o (s ∷ r) → (b : ℕ × Monomial n)
       → V (s ∷ r) b ≡ (gf p).mul (num s.coefficient) (V (scaled_terms p c (s ∷ r)) b)
   back_of c s r e f b = sym (
-        ap ((gf p).mul (num s.coefficient)) (val_scaled p n m o c (s ∷ r) (all_fit p n m o (s ∷ r) f) b)
+      ap ((gf p).mul (num s.coefficient)) (val_scaled p n m o c (s ∷ r) (all_fit p n m o (s ∷ r) f) b)
       ∙ sym ((gf_laws p).mul_assoc (num s.coefficient) (num c) (V (s ∷ r) b))
       ∙ ap (λ x. (gf p).mul x (V (s ∷ r) b)) ((gf_laws p).mul_comm (num s.coefficient) (num c) ∙ sym (number_times p n m o c s.coefficient) ∙ ap num e)
       ∙ (gf_laws p).one_mul (V (s ∷ r) b))
@@ -154,17 +154,17 @@ module _ (p : Prime) (n m : ℕ) (o : Order) where
   kept_rep dropped f = lin_zero (val_nil p n m o)
   kept_rep (kept {s = s} {r = r} c e) f =
       lin_comb (num s.coefficient)
-        (rep_member T T.one (V (scaled_terms p c (s ∷ r))) (head_place (scaled_terms p c (s ∷ r)) (scaled_falling c s.coefficient e (s ∷ r) f))
-          (suc (length _), member_at (scaled_falling c s.coefficient e (s ∷ r) f) e (number_last _ (scaled_terms p c (s ∷ r)))) tt)
-        (lin_nil T)
-        (λ b. scale_only (gf_laws p) (num s.coefficient) (shift T T.one (V (scaled_terms p c (s ∷ r))) b) (V (s ∷ r) b)
-          (back_of c s r e f b ∙ ap ((gf p).mul (num s.coefficient)) (sym (shift_one T (V (scaled_terms p c (s ∷ r))) b))))
+      (rep_member T T.one (V (scaled_terms p c (s ∷ r))) (head_place (scaled_terms p c (s ∷ r)) (scaled_falling c s.coefficient e (s ∷ r) f))
+      (suc (length _), member_at (scaled_falling c s.coefficient e (s ∷ r) f) e (number_last _ (scaled_terms p c (s ∷ r)))) tt)
+      (lin_nil T)
+      (λ b. scale_only (gf_laws p) (num s.coefficient) (shift T T.one (V (scaled_terms p c (s ∷ r))) b) (V (s ∷ r) b)
+      (back_of c s r e f b ∙ ap ((gf p).mul (num s.coefficient)) (sym (shift_one T (V (scaled_terms p c (s ∷ r))) b))))
 
   pub kept_low : {ms more : List (List Term)} {keep : Bool} {r : List Term} → IsKept p ms keep r more → IsFalling p n m o r
       → (a : ℕ × Monomial n) → ((b : ℕ × Monomial n) → ¬ (T.Less b a) → V r b ≡ (gf p).zero) → Low T (Members more) a (V r)
   kept_low dropped f a z = lin_zero (val_nil p n m o)
   kept_low (kept {s = s} {r = r} c e) f a z =
       low_of_kept T (V (scaled_terms p c (s ∷ r))) (head_place (scaled_terms p c (s ∷ r)) (scaled_falling c s.coefficient e (s ∷ r) f))
-        (suc (length _), member_at (scaled_falling c s.coefficient e (s ∷ r) f) e (number_last _ (scaled_terms p c (s ∷ r)))) a
-        (place_in T (below_segment T a) (V (s ∷ r)) z (head_place (s ∷ r) f) (head_of_terms p n m o s r f).0)
-        (num s.coefficient) (V (s ∷ r)) (back_of c s r e f)
+      (suc (length _), member_at (scaled_falling c s.coefficient e (s ∷ r) f) e (number_last _ (scaled_terms p c (s ∷ r)))) a
+      (place_in T (below_segment T a) (V (s ∷ r)) z (head_place (s ∷ r) f) (head_of_terms p n m o s r f).0)
+      (num s.coefficient) (V (s ∷ r)) (back_of c s r e f)

@@ -130,7 +130,7 @@ module _ {n : ℕ} where
   lcm_least a b m l e = (
     difference m (difference (maximum a b) a),
     sym (same_monomial (difference m (difference (maximum a b) a) · difference (maximum a b) a) m
-      (cofactor_left a.exponents b.exponents m.exponents l.exponents (b.fits ∙ sym a.fits) (m.fits ∙ sym a.fits) (l.fits ∙ sym a.fits) (ap (λ x. x.exponents) e))),
+        (cofactor_left a.exponents b.exponents m.exponents l.exponents (b.fits ∙ sym a.fits) (m.fits ∙ sym a.fits) (l.fits ∙ sym a.fits) (ap (λ x. x.exponents) e))),
     sym (same_monomial (difference m (difference (maximum a b) a) · difference (maximum a b) b) l
-      (cofactor_right a.exponents b.exponents m.exponents l.exponents (b.fits ∙ sym a.fits) (m.fits ∙ sym a.fits) (l.fits ∙ sym a.fits) (ap (λ x. x.exponents) e))),
+        (cofactor_right a.exponents b.exponents m.exponents l.exponents (b.fits ∙ sym a.fits) (m.fits ∙ sym a.fits) (l.fits ∙ sym a.fits) (ap (λ x. x.exponents) e))),
   )

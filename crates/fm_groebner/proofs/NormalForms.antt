@@ -9,12 +9,10 @@ use Rattle.fm_tuple.specs.Tuple.{tuple_multiple}
 use Rattle.fm_tuple.proofs.Tuples.{length_tuple_multiple}
 use Rattle.fm_mono.specs.declared.order.Order.{Order}
 use Rattle.fm_algebra.specs.Gf.{gf, gf_is_zero, same_residue}
-use Rattle.fm_algebra.specs.Matrix.{component}
 use Rattle.fm_algebra.specs.Polynomials.{Polynomial, polynomials, polynomial_of, frobenius_twist}
 use Rattle.fm_algebra.specs.PolynomialMatrices.{vector_twist}
 use Rattle.fm_algebra.proofs.Algebra.{add_cancel}
 use Rattle.fm_algebra.proofs.Gf.{gf_laws}
-use Rattle.fm_algebra.proofs.Tables.{get_or-listed}
 use Rattle.fm_algebra.proofs.Concrete.{polynomials_laws}
 use Rattle.fm_algebra.proofs.TwistWords.{twist_of_terms}
 use Rattle.fm_groebner.proofs.Vectors.{length_vector, component_of_vector}
@@ -52,12 +50,15 @@ module _ (p : Prime) (n m : ℕ) (o : Order) where
       let a = f.0.1 in
       let b = g.0.1 in
       let first : t ≡ u = same_term t u (omega (arith, level, a, b)) (ap (λ z. z.1.exponents) place) (same_number (
-          sym (val_head p n m o t ts f) ∙ e (head_place p n m o (t ∷ ts) f) ∙ ap (V p n m o (u ∷ us)) place ∙ val_head p n m o u us g)) in
+      sym (val_head p n m o t ts f) ∙ e (head_place p n m o (t ∷ ts) f) ∙ ap (V p n m o (u ∷ us)) place ∙ val_head p n m o u us g)) in
       ap₂ (λ x y. x ∷ y) first (same_terms ts us f.2 g.2 (λ c. add_cancel (gf_laws p) (V p n m o (t ∷ []) c) (V p n m o ts c) (V p n m o us c)
-        (sym (val_cons p n m o t ts c) ∙ e c ∙ val_cons p n m o u us c ∙ ap (λ z. (gf p).add (V p n m o (z ∷ []) c) (V p n m o us c)) (sym first))))
+      (sym (val_cons p n m o t ts c) ∙ e c ∙ val_cons p n m o u us c ∙ ap (λ z. (gf p).add (V p n m o (z ∷ []) c) (V p n m o us c)) (sym first))))
     where
       same_number : number p n m o t.coefficient ≡ number p n m o u.coefficient → t.coefficient ≡ u.coefficient
       same_number q = sym (mod-eq_of_lt f.0.4) ∙ ap (λ x. x.number) q ∙ mod-eq_of_lt g.0.4
+
+  pub terms_unique : (ts us : List Term) → IsFalling p n m o ts → IsFalling p n m o us → vector_of p n m ts ≡ vector_of p n m us → ts ≡ us
+  terms_unique ts us f g e = same_terms ts us f g (λ b. ap (λ v. val p n m o v b) e)
 
   -- ---- at least one
   abbrev pub Normal : Vect X → Type 0
@@ -68,7 +69,7 @@ module _ (p : Prime) (n m : ℕ) (o : Order) where
   above_first t f (s ∷ ss) g z =
       let fs = fits_of p n m o s g.0 in
       cmp_of_less o n m s.component t.component (head_place p n m o (s ∷ ss) g).1 (place_of p n m o t f).1 fs.within f.within
-        (place_in X (below_segment X (place_of p n m o t f)) (V p n m o (s ∷ ss)) z (head_place p n m o (s ∷ ss) g) (head_of_terms p n m o s ss g).0)
+      (place_in X (below_segment X (place_of p n m o t f)) (V p n m o (s ∷ ss)) z (head_place p n m o (s ∷ ss) g) (head_of_terms p n m o s ss g).0)
 
   module _ (u : Vect X) (outside : (b : ℕ × Monomial n) → ¬ (b.0 < m) → u b ≡ (gf p).zero) (finite : IsFinite X u) (a : ℕ × Monomial n) (hd : setting.IsHead X u a) where
     inside : a.0 < m
@@ -107,11 +108,14 @@ module _ (p : Prime) (n m : ℕ) (o : Order) where
         ∙ diff_self (gf_laws p) (u a)
 
     remaining_finite : IsFinite X remaining
-    remaining_finite = (a ∷ finite.0, λ b. elim (X.compared b a) [
-      | setting.below l ↦ other b (λ e. not_less_of_same X e l)
-      | setting.same e ↦ inr (subst (In (a ∷ finite.0)) (sym e) here)
-      | setting.above l ↦ other b (λ e. not_less_of_same X (sym e) l)
-    ])
+    remaining_finite = (
+      a ∷ finite.0,
+      λ b. elim (X.compared b a) [
+        | setting.below l ↦ other b (λ e. not_less_of_same X e l)
+        | setting.same e ↦ inr (subst (In (a ∷ finite.0)) (sym e) here)
+        | setting.above l ↦ other b (λ e. not_less_of_same X (sym e) l)
+      ],
+    )
       where
         other : (b : ℕ × Monomial n) → ¬ (b ≡ a) → (remaining b ≡ (gf p).zero) ⊎ In (a ∷ finite.0) b
         other b w = elim (finite.1 b) [ inl z ↦ inl (elsewhere b w ∙ z) | inr i ↦ inr (there i) ]
@@ -128,9 +132,11 @@ module _ (p : Prime) (n m : ℕ) (o : Order) where
 
     with_first : Normal remaining → Normal u
     unfolding remaining
-    with_first (ts, f, e) = (first_term ∷ ts,
-        (is_term, above_first first_term term_fits ts f (λ b w. e b ∙ remaining_above b (λ l. w (subst (X.Less b) (sym term_place) l))), f),
-        λ b. val_cons p n m o first_term ts b ∙ ap ((gf p).add (V p n m o (first_term ∷ []) b)) (e b) ∙ sym (sum_back (gf_laws p) (V p n m o (first_term ∷ []) b) (u b)))
+    with_first (ts, f, e) = (
+      first_term ∷ ts,
+      (is_term, above_first first_term term_fits ts f (λ b w. e b ∙ remaining_above b (λ l. w (subst (X.Less b) (sym term_place) l))), f),
+      λ b. val_cons p n m o first_term ts b ∙ ap ((gf p).add (V p n m o (first_term ∷ []) b)) (e b) ∙ sym (sum_back (gf_laws p) (V p n m o (first_term ∷ []) b) (u b)),
+    )
 
   nil_normal : (u : Vect X) → IsNil X u → Normal u
   nil_normal u z = ([], tt, λ b. val_nil p n m o b ∙ sym (z b))
@@ -159,7 +165,20 @@ module _ (p : Prime) (n m : ℕ) (o : Order) where
       let ft = fits_of p n m o t f.0 in
       head_from p n m o (vector_of p n m (t ∷ ts)) (length_vector p n m (t ∷ ts)) t.component (head_place p n m o (t ∷ ts) f).1 ft.positive ft.within (head_of_terms p n m o t ts f)
 
-  -- ---- twists
+  twisted_above : (e : ℕ) (t : Term) (ts : List Term) → IsAboveFirst o t ts → IsAboveFirst o (twisted_term p e t) (twisted_terms p e ts)
+  twisted_above e t [] a = tt
+  twisted_above e t (s ∷ ts) a = multiple_cmp p n m e o s.component t.component s.exponents t.exponents ∙ a
+
+  pub twisted_falling : (e : ℕ) (ts : List Term) → IsFalling p n m o ts → IsFalling p n m o (twisted_terms p e ts)
+  twisted_falling e [] f = tt
+  twisted_falling e (t ∷ ts) f = (
+    (f.0.0, f.0.1, length_tuple_multiple (prime_value p ^ e) t.exponents ∙ f.0.2, f.0.3, f.0.4),
+    twisted_above e t ts f.1,
+    twisted_falling e ts f.2,
+  )
+
+-- the vector of the twisted terms is the twist of the vector
+module _ (p : Prime) (n m : ℕ) where
   abbrev twisted_pair : ℕ → List ℕ × ℕ → List ℕ × ℕ
   twisted_pair e t = (tuple_multiple (prime_value p ^ e) t.0, t.1)
 
@@ -179,16 +198,4 @@ module _ (p : Prime) (n m : ℕ) (o : Order) where
   vector_of_twisted e ts = same_components (polynomials p n) (polynomials_laws p n) m (vector_of p n m (twisted_terms p e ts)) (map (frobenius_twist p n e) (vector_of p n m ts))
       (length_vector p n m (twisted_terms p e ts)) (length-map (vector_of p n m ts) (frobenius_twist p n e) ∙ length_vector p n m ts)
       (λ i h. component_of_vector p n m (twisted_terms p e ts) i h ∙ ap (polynomial_of p n) (twisted_in e (suc i) ts) ∙ sym (twist_of_terms p n e (terms_in (suc i) ts))
-        ∙ sym (component_map p n (frobenius_twist p n e) (twist_zero_is p n m e o) (vector_of p n m ts) i ∙ ap (frobenius_twist p n e) (component_of_vector p n m ts i h)))
-
-  twisted_above : (e : ℕ) (t : Term) (ts : List Term) → IsAboveFirst o t ts → IsAboveFirst o (twisted_term p e t) (twisted_terms p e ts)
-  twisted_above e t [] a = tt
-  twisted_above e t (s ∷ ts) a = multiple_cmp p n m e o s.component t.component s.exponents t.exponents ∙ a
-
-  pub twisted_falling : (e : ℕ) (ts : List Term) → IsFalling p n m o ts → IsFalling p n m o (twisted_terms p e ts)
-  twisted_falling e [] f = tt
-  twisted_falling e (t ∷ ts) f = (
-    (f.0.0, f.0.1, length_tuple_multiple (prime_value p ^ e) t.exponents ∙ f.0.2, f.0.3, f.0.4),
-    twisted_above e t ts f.1,
-    twisted_falling e ts f.2,
-  )
+      ∙ sym (component_map p n (frobenius_twist p n e) (twist_zero_is p n e) (vector_of p n m ts) i ∙ ap (frobenius_twist p n e) (component_of_vector p n m ts i h)))

@@ -25,8 +25,8 @@ module _ (o : Order) (n : ℕ) where
   pub times_cmp : (m a b : Monomial n) → monomial_cmp o (m · a).exponents (m · b).exponents ≡ monomial_cmp o a.exponents b.exponents
   times_cmp m a b =
       ap (λ x. monomial_cmp o x.exponents (m · b).exponents) (times_comm m a)
-    ∙ ap (λ x. monomial_cmp o (a · m).exponents x.exponents) (times_comm m b)
-    ∙ monomial_cmp_sum o a.exponents b.exponents m.exponents (a.fits ∙ sym m.fits) (b.fits ∙ sym m.fits)
+      ∙ ap (λ x. monomial_cmp o (a · m).exponents x.exponents) (times_comm m b)
+      ∙ monomial_cmp_sum o a.exponents b.exponents m.exponents (a.fits ∙ sym m.fits) (b.fits ∙ sym m.fits)
 
   pub lower_founded : (a : Monomial n) → Acc Lower a
   lower_founded a = order_induction o n (λ x. (l : length x ≡ n) → Acc Lower (record { exponents = x; fits = l }))

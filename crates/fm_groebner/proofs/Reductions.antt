@@ -1,26 +1,25 @@
 -- Each vector reduces to an irreducible rest, and each pair with heads in one component has an S-vector.
-use Rattle.std.proofs.Common.{◌≡◌, ◌⊎◌, inl, inr, ℕ, zero, suc, ◌+◌, ◌-◌, ◌*◌, ◌%◌, ◌<◌, ◌≤◌, List, [], ◌∷◌, ◌++◌, map, length, Contains, refl, sym, ap, ap₂, ◌∙◌, subst, arith, mod-eq_of_lt}
+use Rattle.std.proofs.Common.{◌≡◌, ◌⊎◌, inl, inr, ℕ, suc, ◌-◌, ◌*◌, ◌%◌, ◌<◌, List, [], ◌∷◌, ◌++◌, Contains, refl, sym, ap, ap₂, ◌∙◌, subst, arith, mod-eq_of_lt}
 use mathlib.Core.WellFounded.{Acc}
 use native.Mathlib.Decide.{ℕ_discrete}
 use Rattle.fm_gfp.specs.Primes.{prime_value}
 use Rattle.fm_gfp.specs.declared.prime.Prime.{Prime}
-use Rattle.fm_tuple.specs.Tuple.{tuple_difference, tuple_maximum, TupleDivides}
 use Rattle.fm_mono.specs.declared.order.Order.{Order}
-use Rattle.fm_algebra.specs.Gf.{gf, gf_is_zero, Residue, same_residue}
+use Rattle.fm_algebra.specs.Gf.{gf, gf_is_zero, same_residue}
 use Rattle.fm_algebra.proofs.Gf.{gf_laws}
 use Rattle.fm_groebner.proofs.Vectors.{length_vector}
-use Rattle.fm_groebner.specs.Terms.{Term, TermDivides, IsFalling, IsMonic, vector_of, multiple_terms}
+use Rattle.fm_groebner.specs.Terms.{Term, TermDivides, IsFalling, vector_of, multiple_terms}
 use Rattle.fm_groebner.specs.Logs.{IsNumber, first, next, ReducesBy, no_more, one_more, IsIrreducible, IsSVector}
 use Rattle.fm_groebner.proofs.Setting as setting
 use Rattle.fm_groebner.proofs.Setting.{Vect, IsFinite, shift, lin_gen, lin_comb}
-use Rattle.fm_groebner.proofs.Algebra.{neg_mul, add_neg, mul_zero, skip_zero, add_left, add_zero, diff_self}
+use Rattle.fm_groebner.proofs.Algebra.{neg_mul, add_neg, skip_zero}
 use Rattle.fm_groebner.proofs.Span.{shift_view, shift_at, finite_shift, finite_of_lin, less_of_at, below_segment, place_in}
 use Rattle.fm_groebner.proofs.Monomials.{Monomial, ◌·◌, divides_dec, difference, maximum, times_comm, times_difference}
 use Rattle.fm_groebner.proofs.Places.{same_place}
 use Rattle.fm_groebner.proofs.Ordered.{ordered}
 use Rattle.fm_groebner.proofs.Values.{value_finite, same_vector}
 use Rattle.fm_groebner.proofs.Numbers.{contains_cases}
-use Rattle.fm_groebner.proofs.TermValues.{number, fits_of, place_of, Fits, all_fit, val_outside, val_append, val_multiple, val_head, head_of_terms, number_times, number_nonzero}
+use Rattle.fm_groebner.proofs.TermValues.{number, fits_of, all_fit, val_outside, val_append, val_multiple, val_head, head_of_terms, number_times, number_nonzero}
 use Rattle.fm_groebner.proofs.MonicLists.{T, V, head_place}
 use Rattle.fm_groebner.proofs.Bases.{inverse_of}
 use Rattle.fm_groebner.proofs.NormalForms.{normal_of}
@@ -82,8 +81,8 @@ module _ (p : Prime) (n m : ℕ) (o : Order) where
   vector_back v w g c a f e = same_vector (ordered o n) (gf p) (gf_laws p) (gf_is_zero p) m (vector_of p n m (v ++ multiple_terms p c a.exponents g)) (vector_of p n m w)
       (length_vector p n m (v ++ multiple_terms p c a.exponents g)) (length_vector p n m w)
       (λ b. val_append p n m o v (multiple_terms p c a.exponents g) b
-        ∙ ap₂ (gf p).add (e b ∙ ap (λ x. (gf p).add x (V p n m o w b)) (neg_mul (gf_laws p) (number p n m o c) (shift X a (V p n m o g) b))) (val_multiple p n m o c a g (all_fit p n m o g f) b)
-        ∙ put_back ((gf p).mul (number p n m o c) (shift X a (V p n m o g) b)) (V p n m o w b))
+      ∙ ap₂ (gf p).add (e b ∙ ap (λ x. (gf p).add x (V p n m o w b)) (neg_mul (gf_laws p) (number p n m o c) (shift X a (V p n m o g) b))) (val_multiple p n m o c a g (all_fit p n m o g f) b)
+      ∙ put_back ((gf p).mul (number p n m o c) (shift X a (V p n m o g) b)) (V p n m o w b))
 
   -- the factor that cancels a head
   cancels : (c d : ℕ) → 0 < d → d < prime_value p → c < prime_value p → (f : ℕ) × ((f * d) % prime_value p ≡ c)
@@ -174,9 +173,11 @@ module _ (p : Prime) (n m : ℕ) (o : Order) where
       let fu = fits_of p n m o u g.0 in
       let at : Monomial n = record { exponents = t.exponents; fits = ft.exponents } in
       let au : Monomial n = record { exponents = u.exponents; fits = fu.exponents } in
-      let v = difference_list (multiple_terms p 1 (difference (maximum at au) at).exponents (t ∷ ts)) (u ∷ us) 1 (difference (maximum at au) au) g in
-      (v.0, record {
-        one_component = e;
-        falls = v.1;
-        is = vector_back v.0 (multiple_terms p 1 (difference (maximum at au) at).exponents (t ∷ ts)) (u ∷ us) 1 (difference (maximum at au) au) g v.2;
-      })
+      let v = difference_list (multiple_terms p 1 (difference (maximum at au) at).exponents (t ∷ ts)) (u ∷ us) 1 (difference (maximum at au) au) g in (
+        v.0,
+        record {
+          one_component = e;
+          falls = v.1;
+          is = vector_back v.0 (multiple_terms p 1 (difference (maximum at au) at).exponents (t ∷ ts)) (u ∷ us) 1 (difference (maximum at au) au) g v.2;
+        },
+      )

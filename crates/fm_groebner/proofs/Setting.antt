@@ -55,11 +55,11 @@ in_map f (there i) = there (in_map f i)
 module _ (S : Setting) where
   open S use {Place, Monomial, ◌·◌, ◌•◌, Less, quotient}
   open S.ring use {Carrier, zero as 𝟘, one as 𝟙, add as ◌⊕◌, mul as ◌⊗◌, neg}
+
   infixl 60 ◌⊕◌
   infixl 70 ◌⊗◌
   infixl 70 ◌·◌
   infixr 65 ◌•◌
-
   abbrev pub Vect : Type 0
   Vect = Place → Carrier
 

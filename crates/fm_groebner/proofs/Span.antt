@@ -7,11 +7,11 @@ use Rattle.fm_groebner.proofs.Algebra.{comb_zero, comb_one}
 module _ (S : Setting) where
   open S use {Place, Monomial, ◌·◌, ◌•◌, Less, quotient}
   open S.ring use {Carrier, zero as 𝟘, one as 𝟙, add as ◌⊕◌, mul as ◌⊗◌, neg}
+
   infixl 60 ◌⊕◌
   infixl 70 ◌⊗◌
   infixl 70 ◌·◌
   infixr 65 ◌•◌
-
   -- a linear map of vectors
   pub record IsLinear (φ : Vect S → Vect S) : Type 0 where
     pub on_zero : (v : Vect S) → IsNil S v → IsNil S (φ v)
@@ -295,16 +295,22 @@ module _ (S : Setting) where
   finite_of_lin f (lin_comb {u = u} {w = w} {v = v} c p q e) = join (finite_of_lin f p) (finite_of_lin f q)
     where
       join : IsFinite S u → IsFinite S w → IsFinite S v
-      join l r = (l.0 ++ r.0, λ b. elim (l.1 b) [
-        | inl z ↦ elim (r.1 b) [ inl y ↦ inl (e b ∙ comb_zero S.laws c (u b) (w b) z y) | inr i ↦ inr (in_right l.0 r.0 i) ]
-        | inr i ↦ inr (in_left l.0 r.0 i)
-      ])
+      join l r = (
+        l.0 ++ r.0,
+        λ b. elim (l.1 b) [
+          | inl z ↦ elim (r.1 b) [ inl y ↦ inl (e b ∙ comb_zero S.laws c (u b) (w b) z y) | inr i ↦ inr (in_right l.0 r.0 i) ]
+          | inr i ↦ inr (in_left l.0 r.0 i)
+        ],
+      )
 
   pub finite_shift : (m : Monomial) {v : Vect S} → IsFinite S v → IsFinite S (shift S m v)
-  finite_shift m {v} f = (map (λ y. m • y) f.0, λ b. elim (shift_view m b) [
-    | inl p ↦ elim (f.1 p.0) [ inl z ↦ inl (p.2 v ∙ z) | inr i ↦ inr (subst (In (map (λ y. m • y) f.0)) p.1 (in_map (λ y. m • y) i)) ]
-    | inr p ↦ inl (p.1 v)
-  ])
+  finite_shift m {v} f = (
+    map (λ y. m • y) f.0,
+    λ b. elim (shift_view m b) [
+      | inl p ↦ elim (f.1 p.0) [ inl z ↦ inl (p.2 v ∙ z) | inr i ↦ inr (subst (In (map (λ y. m • y) f.0)) p.1 (in_map (λ y. m • y) i)) ]
+      | inr p ↦ inl (p.1 v)
+    ],
+  )
 
   pub finite_eq : {u v : Vect S} → ((b : Place) → v b ≡ u b) → IsFinite S u → IsFinite S v
   finite_eq e f = (f.0, λ b. elim (f.1 b) [ inl z ↦ inl (e b ∙ z) | inr i ↦ inr i ])

@@ -107,8 +107,8 @@ module _ (p : Prime) (n m : ℕ) (o : Order) where
   unfolding vector_of component
   val_inside ts b l = value_is (ordered o n) (gf p) (gf_laws p) (gf_is_zero p) m (vector_of p n m ts) b
       ∙ ap (λ f. coeff f b.1.exponents) (component_inside (ordered o n) (gf p) (gf_laws p) (gf_is_zero p) m b.0 (vector_of p n m ts) l
-        ∙ get_or-listed m (m - suc b.0) (polynomials p n).zero (λ i. poly_in (suc i) ts) smaller
-        ∙ ap (λ i. poly_in i ts) index)
+      ∙ get_or-listed m (m - suc b.0) (polynomials p n).zero (λ i. poly_in (suc i) ts) smaller
+      ∙ ap (λ i. poly_in i ts) index)
     where
       smaller : m - suc b.0 < m
       smaller = omega arith
@@ -199,7 +199,7 @@ module _ (p : Prime) (n m : ℕ) (o : Order) where
   shift_sum : (a : Monomial n) (t : Term) (ts : List Term) (b : ℕ × Monomial n)
       → shift S a (terms_val (t ∷ ts)) b ≡ K.add (shift S a (terms_val (t ∷ [])) b) (shift S a (terms_val ts) b)
   shift_sum a t ts b = (shift_linear S a).on_comb K.one (terms_val (t ∷ [])) (terms_val ts) (terms_val (t ∷ ts))
-        (λ c. val_cons t ts c ∙ ap (λ x. K.add x (terms_val ts c)) (sym ((gf_laws p).one_mul (terms_val (t ∷ []) c)))) b
+      (λ c. val_cons t ts c ∙ ap (λ x. K.add x (terms_val ts c)) (sym ((gf_laws p).one_mul (terms_val (t ∷ []) c)))) b
       ∙ ap (λ x. K.add x (shift S a (terms_val ts) b)) ((gf_laws p).one_mul (shift S a (terms_val (t ∷ [])) b))
 
   -- the vector of the terms of c * x^a times a vector
@@ -234,9 +234,9 @@ module _ (p : Prime) (n m : ℕ) (o : Order) where
       let fs = fits_of s g.0 in
       let less : S.Less (place_of s fs) (place_of t f) = less_of_cmp o n m s.component t.component (record { exponents = s.exponents; fits = fs.exponents }) (record { exponents = t.exponents; fits = f.exponents }) fs.within a in
       val_cons s ss b
-    ∙ ap₂ K.add (val_other s fs b (λ e. w (subst (λ x. S.Less x (place_of t f)) (sym e) less)))
-        (val_above s fs ss g.1 g.2 b (λ l. w (S.less_trans {a = b} {b = place_of s fs} {c = place_of t f} l less)))
-    ∙ (gf_laws p).zero_add K.zero
+      ∙ ap₂ K.add (val_other s fs b (λ e. w (subst (λ x. S.Less x (place_of t f)) (sym e) less)))
+      (val_above s fs ss g.1 g.2 b (λ l. w (S.less_trans {a = b} {b = place_of s fs} {c = place_of t f} l less)))
+      ∙ (gf_laws p).zero_add K.zero
 
   pub val_head : (t : Term) (ts : List Term) (g : IsFalling p n m o (t ∷ ts)) → terms_val (t ∷ ts) (place_of t (fits_of t g.0)) ≡ number t.coefficient
   val_head t ts g = val_cons t ts (place_of t (fits_of t g.0))
@@ -251,10 +251,13 @@ module _ (p : Prime) (n m : ℕ) (o : Order) where
 
   -- the head of a falling list is its first term
   pub head_of_terms : (t : Term) (ts : List Term) (g : IsFalling p n m o (t ∷ ts)) → IsHead S (terms_val (t ∷ ts)) (place_of t (fits_of t g.0))
-  head_of_terms t ts g = ((λ e. number_nonzero t.coefficient g.0.3 g.0.4 (sym (val_head t ts g) ∙ e)), λ b l.
-      val_cons t ts b
-    ∙ ap₂ K.add (val_other t (fits_of t g.0) b (λ e. not_less_of_same S (sym e) l)) (val_above t (fits_of t g.0) ts g.1 g.2 b (λ k. less_irrefl S b (S.less_trans {a = b} {b = place_of t (fits_of t g.0)} {c = b} k l)))
-    ∙ (gf_laws p).zero_add K.zero)
+  head_of_terms t ts g = (
+    (λ e. number_nonzero t.coefficient g.0.3 g.0.4 (sym (val_head t ts g) ∙ e)),
+    λ b l.
+        val_cons t ts b
+        ∙ ap₂ K.add (val_other t (fits_of t g.0) b (λ e. not_less_of_same S (sym e) l)) (val_above t (fits_of t g.0) ts g.1 g.2 b (λ k. less_irrefl S b (S.less_trans {a = b} {b = place_of t (fits_of t g.0)} {c = b} k l)))
+        ∙ (gf_laws p).zero_add K.zero,
+  )
 
   -- a falling list whose vector is zero is empty
   pub empty_of_nil : (ts : List Term) → IsFalling p n m o ts → IsNil S (terms_val ts) → ts ≡ []

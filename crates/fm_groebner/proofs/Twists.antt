@@ -32,8 +32,6 @@ use Rattle.fm_groebner.proofs.Numbers.{in_of_contains, contains_of_in, in_of_map
 use Rattle.fm_groebner.proofs.Setting.{In, in_map}
 use Rattle.fm_groebner.proofs.Heads.{exponents_fit}
 
-
-
 module _ (p : Prime) (n : ℕ) where
   -- ---- maps of vectors and images
   module _ (φ : Polynomial p n → Polynomial p n) (on_zero : φ (polynomials p n).zero ≡ (polynomials p n).zero) where
@@ -54,13 +52,13 @@ module _ (p : Prime) (n : ℕ) where
       unfolding apply component
       carried_at w i h =
           component_map (apply (polynomials p n) (generators p n m gens) w) i
-        ∙ ap φ (get_or-listed m i (polynomials p n).zero (λ i. finite_sum (polynomials p n) (length gens) (λ k h. (polynomials p n).mul (entry (polynomials p n) (generators p n m gens) i k) (component (polynomials p n) w k))) h)
-        ∙ sum_map (polynomials_laws p n) φ on_zero on_sum (length gens) (λ k h. (polynomials p n).mul (entry (polynomials p n) (generators p n m gens) i k) (component (polynomials p n) w k))
-        ∙ sum_cast (polynomials_laws p n) (length gens) (length gens')
-            (λ k h. φ ((polynomials p n).mul (entry (polynomials p n) (generators p n m gens) i k) (component (polynomials p n) w k)))
-            (λ k h. (polynomials p n).mul (entry (polynomials p n) (generators p n m gens') i k) (component (polynomials p n) (map φ w) k)) same
-            (λ k a b. on_product i k (component (polynomials p n) w k) ∙ ap ((polynomials p n).mul (entry (polynomials p n) (generators p n m gens') i k)) (sym (component_map w k)))
-        ∙ sym (get_or-listed m i (polynomials p n).zero (λ i. finite_sum (polynomials p n) (length gens') (λ k h. (polynomials p n).mul (entry (polynomials p n) (generators p n m gens') i k) (component (polynomials p n) (map φ w) k))) h)
+          ∙ ap φ (get_or-listed m i (polynomials p n).zero (λ i. finite_sum (polynomials p n) (length gens) (λ k h. (polynomials p n).mul (entry (polynomials p n) (generators p n m gens) i k) (component (polynomials p n) w k))) h)
+          ∙ sum_map (polynomials_laws p n) φ on_zero on_sum (length gens) (λ k h. (polynomials p n).mul (entry (polynomials p n) (generators p n m gens) i k) (component (polynomials p n) w k))
+          ∙ sum_cast (polynomials_laws p n) (length gens) (length gens')
+          (λ k h. φ ((polynomials p n).mul (entry (polynomials p n) (generators p n m gens) i k) (component (polynomials p n) w k)))
+          (λ k h. (polynomials p n).mul (entry (polynomials p n) (generators p n m gens') i k) (component (polynomials p n) (map φ w) k)) same
+          (λ k a b. on_product i k (component (polynomials p n) w k) ∙ ap ((polynomials p n).mul (entry (polynomials p n) (generators p n m gens') i k)) (sym (component_map w k)))
+          ∙ sym (get_or-listed m i (polynomials p n).zero (λ i. finite_sum (polynomials p n) (length gens') (λ k h. (polynomials p n).mul (entry (polynomials p n) (generators p n m gens') i k) (component (polynomials p n) (map φ w) k))) h)
 
       carried : (w : List (Polynomial p n)) → map φ (apply (polynomials p n) (generators p n m gens) w) ≡ apply (polynomials p n) (generators p n m gens') (map φ w)
       carried w = vector_injective (polynomials p n) m (map φ (apply (polynomials p n) (generators p n m gens) w)) (apply (polynomials p n) (generators p n m gens') (map φ w))
@@ -71,26 +69,26 @@ module _ (p : Prime) (n : ℕ) where
       unfolding InImage
       image_carried v (w, l, e) = (map φ w, length-map w φ ∙ l ∙ same, sym (carried w) ∙ ap (map φ) e)
 
+  pub twist_zero_is : (e : ℕ) → frobenius_twist p n e (polynomials p n).zero ≡ (polynomials p n).zero
+  twist_zero_is e = twist_zero (polynomials_laws p n) (polynomials_sliced p n e)
+
   module _ (m e : ℕ) (o : Order) where
     abbrev q : ℕ
     q = prime_value p ^ e
-
-    pub twist_zero_is : frobenius_twist p n e (polynomials p n).zero ≡ (polynomials p n).zero
-    twist_zero_is = twist_zero (polynomials_laws p n) (polynomials_sliced p n e)
 
     entry_twisted : (gens : List (List (Polynomial p n))) (i k : ℕ)
         → entry (polynomials p n) (generators p n m (map (vector_twist p n e) gens)) i k ≡ frobenius_twist p n e (entry (polynomials p n) (generators p n m gens) i k)
     unfolding entry vector_twist
     entry_twisted gens i k = ap (λ c. get_or c i (polynomials p n).zero) (get_or-map (vector_twist p n e) gens k [])
-        ∙ ap (get_or (map (frobenius_twist p n e) (get_or gens k [])) i) (sym twist_zero_is) ∙ get_or-map (frobenius_twist p n e) (get_or gens k []) i (polynomials p n).zero
+        ∙ ap (get_or (map (frobenius_twist p n e) (get_or gens k [])) i) (sym (twist_zero_is e)) ∙ get_or-map (frobenius_twist p n e) (get_or gens k []) i (polynomials p n).zero
 
     -- the image of the twist has the twists of the image
     pub image_twisted : (gens : List (List (Polynomial p n))) (v : List (Polynomial p n)) → InImage p n (generators p n m gens) v → InImage p n (generators p n m (map (vector_twist p n e) gens)) (vector_twist p n e v)
     unfolding vector_twist
-    image_twisted gens v i = image_carried (frobenius_twist p n e) twist_zero_is m (twist_add (polynomials_laws p n) (polynomials_sliced p n e)) gens (map (vector_twist p n e) gens)
+    image_twisted gens v i = image_carried (frobenius_twist p n e) (twist_zero_is e) m (twist_add (polynomials_laws p n) (polynomials_sliced p n e)) gens (map (vector_twist p n e) gens)
         (sym (length-map gens (vector_twist p n e)))
         (λ i k b. twist_mul (polynomials_laws p n) (polynomials_sliced p n e) (entry (polynomials p n) (generators p n m gens) i k) b
-          ∙ ap (λ x. (polynomials p n).mul x (frobenius_twist p n e b)) (sym (entry_twisted gens i k))) v i
+        ∙ ap (λ x. (polynomials p n).mul x (frobenius_twist p n e b)) (sym (entry_twisted gens i k))) v i
 
     -- the slices of the image of the twist are in the image
     pub image_sliced : (gens : List (List (Polynomial p n))) (d : Digits n q) (v : List (Polynomial p n)) → InImage p n (generators p n m (map (vector_twist p n e) gens)) v
@@ -98,7 +96,7 @@ module _ (p : Prime) (n : ℕ) where
     image_sliced gens d v i = image_carried (frobenius_slice p n e d.tuple) (slice_zero (polynomials_laws p n) (polynomials_sliced p n e) d) m ((polynomials_sliced p n e).slice_add d)
         (map (vector_twist p n e) gens) gens (length-map gens (vector_twist p n e))
         (λ i k b. ap (λ x. frobenius_slice p n e d.tuple ((polynomials p n).mul x b)) (entry_twisted gens i k)
-          ∙ (polynomials_sliced p n e).slice_mul d (entry (polynomials p n) (generators p n m gens) i k) b) v i
+        ∙ (polynomials_sliced p n e).slice_mul d (entry (polynomials p n) (generators p n m gens) i k) b) v i
 
     -- ---- heads
     pub multiple_cmp : (j i : ℕ) (b c : List ℕ) → place_cmp o j (tuple_multiple q b) i (tuple_multiple q c) ≡ place_cmp o j b i c
@@ -117,7 +115,7 @@ module _ (p : Prime) (n : ℕ) where
 
     twisted_component : (v : List (Polynomial p n)) (j : ℕ) → vector_component p n (vector_twist p n e v) j ≡ frobenius_twist p n e (vector_component p n v j)
     unfolding vector_twist
-    twisted_component v j = vector_component_map (frobenius_twist p n e) twist_zero_is v j
+    twisted_component v j = vector_component_map (frobenius_twist p n e) (twist_zero_is e) v j
 
     pub twist_head : (v : List (Polynomial p n)) (i : ℕ) (a : List ℕ) → IsHead p n o v i a → IsHead p n o (vector_twist p n e v) i (tuple_multiple q a)
     twist_head v i a hd = record {
@@ -148,10 +146,10 @@ module _ (p : Prime) (n : ℕ) where
       slice_head = record {
         nonzero = λ z. hd.nonzero (sym (sliced_coefficient i (tuple_quotient q a) (length_quotient q a ∙ fits) ∙ ap (coefficient p n (vector_component p n v i)) (place_parts q a)) ∙ z);
         greatest = λ j b nz g.
-          let l = exponents_fit p n m o (vector_component p n (map (frobenius_slice p n e (tuple_remainder q a)) v) j) b nz in
-          hd.greatest j (tuple_place q b (tuple_remainder q a)) (λ z. nz (sliced_coefficient j b l ∙ z))
+            let l = exponents_fit p n m o (vector_component p n (map (frobenius_slice p n e (tuple_remainder q a)) v) j) b nz in
+            hd.greatest j (tuple_place q b (tuple_remainder q a)) (λ z. nz (sliced_coefficient j b l ∙ z))
             (ap (λ x. place_cmp o j (tuple_place q b (tuple_remainder q a)) i x) (sym (place_parts q a))
-              ∙ shifted_cmp j i b (tuple_quotient q a) (tuple_remainder q a) l (length_quotient q a ∙ fits) (length_remainder q a ∙ fits) ∙ g);
+            ∙ shifted_cmp j i b (tuple_quotient q a) (tuple_remainder q a) l (length_quotient q a ∙ fits) (length_remainder q a ∙ fits) ∙ g);
       }
 
     multiple_divides : (d a r : List ℕ) → length d ≡ length a → length r ≡ length a → TupleDivides d a → TupleDivides (tuple_multiple q d) (tuple_place q a r)
@@ -182,7 +180,7 @@ module _ (p : Prime) (n : ℕ) where
               is_member = contains_of_in (in_map (vector_twist p n e) (in_of_contains members d.member d.is_member));
               is_head = twist_head d.member i d.exponents d.is_head;
               divides = subst (TupleDivides (tuple_multiple q d.exponents)) (place_parts q a)
-                (multiple_divides d.exponents (tuple_quotient q a) (tuple_remainder q a) (l ∙ sym (length_quotient q a ∙ fits v i a hd)) (length_remainder q a ∙ sym (length_quotient q a)) d.divides);
+                  (multiple_divides d.exponents (tuple_quotient q a) (tuple_remainder q a) (l ∙ sym (length_quotient q a ∙ fits v i a hd)) (length_remainder q a ∙ sym (length_quotient q a)) d.divides);
             }
 
 -- ---- the graph of a twisted matrix
@@ -202,5 +200,5 @@ module _ (p : Prime) (n : ℕ) (o : Order) (e : ℕ) (A : PolynomialMatrix p n) 
   pub twisted_graph : (members : List (List (Polynomial p n))) → IsGraphBasis p n o A members → IsGraphBasis p n o (matrix_twist p n e A) (map (vector_twist p n e) members)
   twisted_graph members basis =
       subst (λ k. IsGroebnerBasis p n k o (map (vector_twist p n e) members) (graph p n (matrix_twist p n e A)).columns) twisted_size
-        (subst (λ cs. IsGroebnerBasis p n (A.rows + length A.columns) o (map (vector_twist p n e) members) cs) twisted_graph_columns
-          (groebner_of_twist p n (A.rows + length A.columns) e o members (graph p n A).columns basis))
+      (subst (λ cs. IsGroebnerBasis p n (A.rows + length A.columns) o (map (vector_twist p n e) members) cs) twisted_graph_columns
+      (groebner_of_twist p n (A.rows + length A.columns) e o members (graph p n A).columns basis))

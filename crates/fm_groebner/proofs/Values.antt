@@ -129,10 +129,13 @@ module _ {n : ℕ} (O : MonomialOrder n) (K : Ring) (L : IsRing K) (is_zero : (c
       smaller w = omega arith
 
   pub value_finite : (m : ℕ) (v : List (Poly K n)) → IsFinite S (value m v)
-  value_finite m v = (places_below v m m, λ b. elim (dec_lt b.0 m) [
-    | yes l ↦ elim (support_covers (component_at m v b.0) b.1.exponents b.1.fits) [
-      | inl z ↦ inl (value_is m v b ∙ z)
-      | inr i ↦ inr (in_places v m m b.0 b.1 l i)
-    ]
-    | no w ↦ inl (value_outside m v b w)
-  ])
+  value_finite m v = (
+    places_below v m m,
+    λ b. elim (dec_lt b.0 m) [
+      | yes l ↦ elim (support_covers (component_at m v b.0) b.1.exponents b.1.fits) [
+        | inl z ↦ inl (value_is m v b ∙ z)
+        | inr i ↦ inr (in_places v m m b.0 b.1 l i)
+      ]
+      | no w ↦ inl (value_outside m v b w)
+    ],
+  )
