@@ -8,12 +8,13 @@ use Rattle.fm_algebra.specs.PolynomialMatrices.{InImage}
 use Rattle.fm_algebra.specs.Polynomials.{Polynomial, polynomials}
 use Rattle.fm_algebra.proofs.Gf.{gf_laws, gf_field}
 use Rattle.fm_algebra.proofs.Tables.{length-apply}
+use Rattle.fm_algebra.proofs.Algebra.{mul_zero}
 use Rattle.fm_groebner.proofs.Vectors.{length_vector}
 use Rattle.fm_groebner.specs.Terms.{Term, vector_of, vectors_of}
 use Rattle.fm_groebner.specs.Bases.{IsHead, generators, HeadDivides, IsGroebnerBasis}
 use Rattle.fm_groebner.proofs.Setting as setting
 use Rattle.fm_groebner.proofs.Setting.{Vect, Family, In, in_map, lin_zero, lin_comb, shift, Span, Divides, IsGroebner, IsNil, Reduces, done, step}
-use Rattle.fm_groebner.proofs.Algebra.{scale_only, mul_zero}
+use Rattle.fm_groebner.proofs.Differences.{scale_only}
 use Rattle.fm_groebner.proofs.Span.{lin_nil, head_eq}
 use Rattle.fm_groebner.proofs.Monomials.{Monomial, difference, times_comm, times_difference, divides_times}
 use Rattle.fm_groebner.proofs.Places.{same_place}

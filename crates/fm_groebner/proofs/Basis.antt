@@ -2,7 +2,7 @@
 use Rattle.std.proofs.Common.{◌≡◌, ◌⊎◌, ◌↔◌, inl, inr, refl, sym, ap, ◌∙◌, subst}
 use mathlib.Core.WellFounded.{Acc}
 use Rattle.fm_groebner.proofs.Setting.{Setting, below, same, above, Vect, lin_zero, lin_gen, lin_comb, shift, Family, Multiple, Representation, Anywhere, Span, IsHead, IsNil, IsMonic, Divides, IsGroebner, Reduces, done, step, Good, IsFinite}
-use Rattle.fm_groebner.proofs.Algebra.{uncut, uncut_diff, diff_self, diff_back, diff_forth, skip_zero, cut_at_one}
+use Rattle.fm_groebner.proofs.Differences.{uncut, uncut_diff, diff_self, diff_back, diff_forth, skip_zero, cut_at_one}
 use Rattle.fm_groebner.proofs.Span.{lin_bind, less_asym, not_less_of_same, rep_member, rep_mono, rep_of_span, head_one, span_shift, head_of_finite, finite_of_span}
 use Rattle.fm_groebner.proofs.Buchberger.{multiple_head, multiple_above, groebner_of_good}
 

@@ -2,7 +2,7 @@
 use Rattle.std.proofs.Common.{◌≡◌, ◌⊎◌, inl, inr, refl, sym, ap, ap₂, ◌∙◌, subst}
 use mathlib.Core.WellFounded.{Acc}
 use Rattle.fm_groebner.proofs.Setting.{Setting, below, same, above, Vect, lin_zero, lin_gen, lin_comb, shift, Family, Multiple, Representation, Low, Anywhere, IsHead, IsNil, IsMonic, Divides, Reduces, done, step, IsLcm, Good}
-use Rattle.fm_groebner.proofs.Algebra.{cut_linear, cut_none, diff_chain, diff_sym, diff_self, uncut, skip_zero, scale_only}
+use Rattle.fm_groebner.proofs.Differences.{cut_linear, cut_none, diff_chain, diff_sym, diff_self, uncut, skip_zero, scale_only}
 use Rattle.fm_groebner.proofs.Span.{IsLinear, lin_map, lin_vanish, lin_nil, lin_eq, less_asym, less_of_at, less_of_not_less, not_less_of_same, IsSegment, below_segment, up_to_segment, place_in, shift_view, shift_at, shift_shift, shift_linear, rep_shift, rep_member, rep_top, rep_split}
 
 module _ (S : Setting) where

@@ -17,7 +17,7 @@ use Rattle.fm_groebner.specs.Logs.{IsNumber, Entry, ReducesBy, IsIrreducible, Is
 use Rattle.fm_groebner.specs.Graphs.{zero_vector}
 use Rattle.fm_groebner.proofs.Setting as setting
 use Rattle.fm_groebner.proofs.Setting.{Vect, lin_zero, lin_comb, Span, IsFinite}
-use Rattle.fm_groebner.proofs.Algebra.{scale_only}
+use Rattle.fm_groebner.proofs.Differences.{scale_only}
 use Rattle.fm_groebner.proofs.Span.{lin_nil, lin_eq, span_member, span_bind, span_of_rep, head_one, head_of_finite, finite_eq}
 use Rattle.fm_groebner.proofs.Basis.{standard_rep}
 use Rattle.fm_groebner.proofs.Heads.{head_to}

@@ -19,7 +19,7 @@ use Rattle.fm_groebner.specs.Logs.{ReducesBy, IsIrreducible}
 use Rattle.fm_groebner.specs.Graphs.{graph, IsGraphBasis, zero_vector, vector_negative, AreLowerBlocks}
 use Rattle.fm_groebner.proofs.Setting as setting
 use Rattle.fm_groebner.proofs.Setting.{Vect, In, in_map, lin_comb, Span, Divides, IsFinite}
-use Rattle.fm_groebner.proofs.Algebra.{scale_only, sum_back, diff_back}
+use Rattle.fm_groebner.proofs.Differences.{scale_only, sum_back, diff_back}
 use Rattle.fm_groebner.proofs.Span.{lin_nil, lin_eq, span_member, span_bind, finite_eq}
 use Rattle.fm_groebner.proofs.Basis.{eliminate, reduces_span}
 use Rattle.fm_groebner.proofs.Monomials.{Monomial}

@@ -1,5 +1,5 @@
 pub mod Setting
-pub mod Algebra
+pub mod Differences
 pub mod Span
 pub mod Buchberger
 pub mod Basis

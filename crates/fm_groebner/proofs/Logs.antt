@@ -9,7 +9,7 @@ use Rattle.fm_groebner.specs.Terms.{Term, IsFalling, IsMonic, vector_of, vectors
 use Rattle.fm_groebner.specs.Logs.{IsNumber, Entry, ReducesBy, IsKept, dropped, kept, IsSVector, IsTreated, DividesLcm, FreeRun, begin, take_input, take_pair, skip_pair, IsComplete}
 use Rattle.fm_groebner.proofs.Setting as setting
 use Rattle.fm_groebner.proofs.Setting.{Vect, Family, In, in_map, lin_zero, lin_comb, shift, Representation, Low, Anywhere, Span, IsGroebner, Reduces, done, step, IsLcm, Good}
-use Rattle.fm_groebner.proofs.Algebra.{scale_only}
+use Rattle.fm_groebner.proofs.Differences.{scale_only}
 use Rattle.fm_groebner.proofs.Span.{lin_eq, lin_nil, rep_member, shift_one, span_shift, span_member, rep_more, all_segment, below_segment}
 use Rattle.fm_groebner.proofs.Buchberger.{divides_common, good_self, good_sym, good_apart, good_chain, good_of_reduces, reduces_rep, reduces_in, s_vector_below}
 use Rattle.fm_groebner.proofs.Basis.{groebner_of_good_pairs, rest_of_span}

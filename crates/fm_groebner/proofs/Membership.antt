@@ -7,13 +7,13 @@ use Rattle.fm_algebra.specs.Gf.{gf}
 use Rattle.fm_algebra.specs.PolynomialMatrices.{InImage}
 use Rattle.fm_algebra.specs.Polynomials.{Polynomial}
 use Rattle.fm_algebra.proofs.Gf.{gf_laws}
+use Rattle.fm_algebra.proofs.Algebra.{mul_zero, neg_mul}
 use Rattle.fm_groebner.proofs.Vectors.{length_vector}
 use Rattle.fm_groebner.specs.Terms.{Term, IsFalling, vector_of, vectors_of}
 use Rattle.fm_groebner.specs.Bases.{generators, IsGroebnerBasis}
 use Rattle.fm_groebner.specs.Logs.{ReducesBy, no_more, one_more, IsIrreducible}
 use Rattle.fm_groebner.proofs.Setting as setting
 use Rattle.fm_groebner.proofs.Setting.{Vect, In, in_map, shift, Divides, IsNil, Reduces, done, step}
-use Rattle.fm_groebner.proofs.Algebra.{mul_zero, neg_mul}
 use Rattle.fm_groebner.proofs.Span.{head_one, shift_view}
 use Rattle.fm_groebner.proofs.Basis.{member_iff}
 use Rattle.fm_groebner.proofs.Monomials.{Monomial, ◌·◌, difference, times_comm, times_difference, divides_times}

@@ -5,11 +5,12 @@ use Rattle.fm_gfp.specs.declared.prime.Prime.{Prime}
 use Rattle.fm_mono.specs.declared.order.Order.{Order}
 use Rattle.fm_algebra.specs.Gf.{gf}
 use Rattle.fm_algebra.proofs.Gf.{gf_laws}
+use Rattle.fm_algebra.proofs.Algebra.{add_zero, mul_zero, neg_mul, add_left_comm}
 use Rattle.fm_groebner.specs.Terms.{Term, IsAboveFirst, IsFalling, IsMonic, vector_of, multiple_terms, scaled_term, scaled_terms}
 use Rattle.fm_groebner.specs.Logs.{IsNumber, ReducesBy, no_more, one_more, IsKept, dropped, kept}
 use Rattle.fm_groebner.proofs.Setting as setting
 use Rattle.fm_groebner.proofs.Setting.{Setting, Vect, Family, Lin, lin_zero, lin_gen, lin_comb, shift, Representation, Low, Anywhere, IsNil, Reduces, done, step}
-use Rattle.fm_groebner.proofs.Algebra.{add_zero, mul_zero, neg_mul, add_left, scale_only}
+use Rattle.fm_groebner.proofs.Differences.{scale_only}
 use Rattle.fm_groebner.proofs.Span.{lin_nil, rep_member, below_segment, place_in, shift_one}
 use Rattle.fm_groebner.proofs.Buchberger.{low_of_kept}
 use Rattle.fm_groebner.proofs.Monomials.{Monomial, same_monomial, one, ◌·◌, difference, times_comm, times_difference}
@@ -61,7 +62,7 @@ module _ (p : Prime) (n m : ℕ) (o : Order) where
 
   -- ---- reduction
   less_sum : (x y z : (gf p).Carrier) → (gf p).add x y ≡ z → x ≡ (gf p).add ((gf p).neg y) z
-  less_sum x y z e = sym (ap ((gf p).add ((gf p).neg y)) (sym e) ∙ add_left (gf_laws p) ((gf p).neg y) x y ∙ ap ((gf p).add x) ((gf_laws p).neg_add y) ∙ add_zero (gf_laws p) x)
+  less_sum x y z e = sym (ap ((gf p).add ((gf p).neg y)) (sym e) ∙ add_left_comm (gf_laws p) ((gf p).neg y) x y ∙ ap ((gf p).add x) ((gf_laws p).neg_add y) ∙ add_zero (gf_laws p) x)
 
   -- where v + c * x^a * g = w: v is w with c * x^a * g taken away
   pub taken_away : (v w g : List Term) (c : ℕ) (a : Monomial n) → AllFit p n m o g → vector_of p n m (v ++ multiple_terms p c a.exponents g) ≡ vector_of p n m w

@@ -1,9 +1,11 @@
 -- Monomials in n variables: products, quotients and least common multiples by exponents.
 use Rattle.std.proofs.Common.{ℕ, zero, suc, ◌+◌, ◌-◌, ◌<◌, ◌≤◌, ◌≡◌, max, List, [], ◌∷◌, length, replicate, refl, sym, ap, ap₂, ◌∙◌, arith}
+use Rattle.std.proofs.lemmas.List.{length-replicate}
 use native.Mathlib.Nat.{ℕ_set}
 use native.Mathlib.Decide.{dec_lt}
 use mathlib.Core.HLevel.{Σ_prop_path}
 use Rattle.fm_tuple.specs.Tuple.{tuple_sum, tuple_difference, tuple_maximum, TupleDivides}
+use Rattle.fm_tuple.proofs.TupleEntries.{length_entrywise}
 use Rattle.fm_tuple.proofs.Tuples.{length_tuple_sum, tuple_sum_comm, tuple_sum_assoc, zeros_tuple_sum, tuple_sum_cancel, tuple_sum_difference}
 
 -- a tuple of n exponents
@@ -15,20 +17,6 @@ pub same_monomial : {n : ℕ} (a b : Monomial n) → a.exponents ≡ b.exponents
 same_monomial {n} a b e =
     let pairs : ◌≡◌ {A = (x : List ℕ) × (length x ≡ n)} (a.exponents, a.fits) (b.exponents, b.fits) = Σ_prop_path (λ x. ℕ_set (length x) n) e in
     λ i. record { exponents = (pairs i).0; fits = (pairs i).1 }
-
-pub length_zeros : (n : ℕ) → length (replicate {A = ℕ} n 0) ≡ n
-length_zeros zero = refl
-length_zeros (suc n) = let h : length (replicate {A = ℕ} n 0) ≡ n = length_zeros n in omega arith
-
-pub length_difference : (a b : List ℕ) → length a ≡ length b → length (tuple_difference a b) ≡ length a
-length_difference [] b e = refl
-length_difference (i ∷ a) [] e = absurd (omega arith)
-length_difference (i ∷ a) (j ∷ b) e = let h : length (tuple_difference a b) ≡ length a = length_difference a b (omega arith) in omega arith
-
-pub length_maximum : (a b : List ℕ) → length a ≡ length b → length (tuple_maximum a b) ≡ length a
-length_maximum [] b e = refl
-length_maximum (i ∷ a) [] e = absurd (omega arith)
-length_maximum (i ∷ a) (j ∷ b) e = let h : length (tuple_maximum a b) ≡ length a = length_maximum a b (omega arith) in omega arith
 
 pub divides_dec : (a b : List ℕ) → Dec (TupleDivides a b)
 divides_dec [] b = yes tt
@@ -85,17 +73,17 @@ cofactor_right a b m n e f g q = absurd (omega arith)
 -- ---- the operations on monomials
 module _ {n : ℕ} where
   abbrev pub one : Monomial n
-  one = record { exponents = replicate n 0; fits = length_zeros n }
+  one = record { exponents = replicate n 0; fits = length-replicate n 0 }
 
   infixl 70 ◌·◌
   abbrev pub ◌·◌ : Monomial n → Monomial n → Monomial n
   a · b = record { exponents = tuple_sum a.exponents b.exponents; fits = length_tuple_sum a.exponents b.exponents (a.fits ∙ sym b.fits) ∙ a.fits }
 
   abbrev pub difference : Monomial n → Monomial n → Monomial n
-  difference a b = record { exponents = tuple_difference a.exponents b.exponents; fits = length_difference a.exponents b.exponents (a.fits ∙ sym b.fits) ∙ a.fits }
+  difference a b = record { exponents = tuple_difference a.exponents b.exponents; fits = length_entrywise ◌-◌ a.exponents b.exponents (a.fits ∙ sym b.fits) ∙ a.fits }
 
   abbrev pub maximum : Monomial n → Monomial n → Monomial n
-  maximum a b = record { exponents = tuple_maximum a.exponents b.exponents; fits = length_maximum a.exponents b.exponents (a.fits ∙ sym b.fits) ∙ a.fits }
+  maximum a b = record { exponents = tuple_maximum a.exponents b.exponents; fits = length_entrywise max a.exponents b.exponents (a.fits ∙ sym b.fits) ∙ a.fits }
 
   pub one_times : (a : Monomial n) → one · a ≡ a
   one_times a = same_monomial (one · a) a (ap (λ k. tuple_sum (replicate k 0) a.exponents) (sym a.fits) ∙ zeros_tuple_sum a.exponents)

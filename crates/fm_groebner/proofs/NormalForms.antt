@@ -20,7 +20,7 @@ use Rattle.fm_groebner.specs.Terms.{Term, IsTerm, IsAboveFirst, IsFalling, terms
 use Rattle.fm_groebner.specs.Bases.{IsHead}
 use Rattle.fm_groebner.proofs.Setting as setting
 use Rattle.fm_groebner.proofs.Setting.{Vect, In, here, there, IsFinite, IsNil}
-use Rattle.fm_groebner.proofs.Algebra.{diff_self, skip_zero, sum_back}
+use Rattle.fm_groebner.proofs.Differences.{diff_self, skip_zero, sum_back}
 use Rattle.fm_groebner.proofs.Span.{head_one, head_eq, head_of_finite, below_segment, place_in, not_less_of_same}
 use Rattle.fm_groebner.proofs.Monomials.{Monomial, same_monomial}
 use Rattle.fm_groebner.proofs.Places.{same_place}

@@ -7,12 +7,13 @@ use Rattle.fm_gfp.specs.declared.prime.Prime.{Prime}
 use Rattle.fm_mono.specs.declared.order.Order.{Order}
 use Rattle.fm_algebra.specs.Gf.{gf, gf_is_zero, same_residue}
 use Rattle.fm_algebra.proofs.Gf.{gf_laws}
+use Rattle.fm_algebra.proofs.Algebra.{neg_mul, add_neg}
 use Rattle.fm_groebner.proofs.Vectors.{length_vector}
 use Rattle.fm_groebner.specs.Terms.{Term, TermDivides, IsFalling, vector_of, multiple_terms}
 use Rattle.fm_groebner.specs.Logs.{IsNumber, first, next, ReducesBy, no_more, one_more, IsIrreducible, IsSVector}
 use Rattle.fm_groebner.proofs.Setting as setting
 use Rattle.fm_groebner.proofs.Setting.{Vect, IsFinite, shift, lin_gen, lin_comb}
-use Rattle.fm_groebner.proofs.Algebra.{neg_mul, add_neg, skip_zero}
+use Rattle.fm_groebner.proofs.Differences.{skip_zero}
 use Rattle.fm_groebner.proofs.Span.{shift_view, shift_at, finite_shift, finite_of_lin, less_of_at, below_segment, place_in}
 use Rattle.fm_groebner.proofs.Monomials.{Monomial, ◌·◌, divides_dec, difference, maximum, times_comm, times_difference}
 use Rattle.fm_groebner.proofs.Places.{same_place}

@@ -2,7 +2,7 @@
 use Rattle.std.proofs.Common.{◌≡◌, ◌⊎◌, inl, inr, List, [], ◌∷◌, ◌++◌, map, Option, Some, None, refl, sym, ap, ap₂, ◌∙◌, subst}
 use mathlib.Core.WellFounded.{Acc}
 use Rattle.fm_groebner.proofs.Setting.{Setting, below, same, above, In, here, there, in_left, in_right, in_map, Vect, Lin, lin_zero, lin_gen, lin_comb, at_quotient, shift, Family, Representation, Low, Anywhere, Span, IsHead, IsNil, Divides, IsFinite}
-use Rattle.fm_groebner.proofs.Algebra.{comb_zero, comb_one}
+use Rattle.fm_groebner.proofs.Differences.{comb_zero, comb_one}
 
 module _ (S : Setting) where
   open S use {Place, Monomial, ◌·◌, ◌•◌, Less, quotient}

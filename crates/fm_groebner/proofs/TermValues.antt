@@ -17,9 +17,9 @@ use Rattle.fm_algebra.proofs.Gf.{gf_laws}
 use Rattle.fm_algebra.proofs.PolyRing.{coeff_zero, coeff_add}
 use Rattle.fm_algebra.proofs.Monomial.{coeff_monomial_at, single_same, single_other}
 use Rattle.fm_algebra.proofs.Tables.{get_or-listed}
+use Rattle.fm_algebra.proofs.Algebra.{add_zero, mul_zero}
 use Rattle.fm_groebner.specs.Terms.{Term, IsTerm, IsAboveFirst, IsFalling, terms_in, vector_of, multiple_term, multiple_terms, scaled_term, scaled_terms}
 use Rattle.fm_groebner.proofs.Setting.{Setting, below, same, above, Vect, shift, IsHead, IsNil}
-use Rattle.fm_groebner.proofs.Algebra.{add_zero, mul_zero}
 use Rattle.fm_groebner.proofs.Span.{shift_view, shift_linear, at_injective, less_irrefl, not_less_of_same}
 use Rattle.fm_groebner.proofs.Monomials.{Monomial, same_monomial, ◌·◌}
 use Rattle.fm_groebner.proofs.Places.{places, same_place}

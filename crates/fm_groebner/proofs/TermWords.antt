@@ -3,7 +3,7 @@ use Rattle.std.proofs.Common.{◌≡◌, ℕ, zero, suc, ◌*◌, ◌%◌, ◌<�
 use native.Mathlib.Decide.{dec_lt}
 use Rattle.fm_tuple.proofs.Tuples.{zeros_tuple_sum}
 use Rattle.fm_groebner.proofs.Vectors.{length_vector, component_of_vector}
-use Rattle.fm_groebner.proofs.Monomials.{length_zeros}
+use Rattle.std.proofs.lemmas.List.{length-replicate}
 use Rattle.fm_gfp.specs.Primes.{prime_value}
 use Rattle.fm_gfp.specs.declared.prime.Prime.{Prime}
 use Rattle.fm_tuple.specs.Tuple.{tuple_sum}
@@ -91,4 +91,4 @@ module _ (p : Prime) (n m : ℕ) where
   -- the scaled list means the product with a constant
   pub component_scaled : (c : ℕ) (ts : List Term) → HaveExponents n ts → (i : ℕ)
       → vector_component p n (vector_of p n m (scaled_terms p c ts)) i ≡ polynomial_product p n (polynomial_term p n c (replicate n 0)) (vector_component p n (vector_of p n m ts) i)
-  component_scaled c ts h i = ap (λ x. vector_component p n (vector_of p n m x) i) (scaled_is_multiple c ts h) ∙ component_multiple c (replicate n 0) ts (length_zeros n) h i
+  component_scaled c ts h i = ap (λ x. vector_component p n (vector_of p n m x) i) (scaled_is_multiple c ts h) ∙ component_multiple c (replicate n 0) ts (length-replicate n 0) h i
