@@ -22,15 +22,15 @@ use Rattle.fm_groebner.proofs.Ordered.{ordered}
 use Rattle.fm_groebner.proofs.Images.{Values, span_of_image, image_of_span, vector_of_span}
 use Rattle.fm_groebner.proofs.Numbers.{in_of_contains, contains_of_in, in_of_map, in_of_number, number_of_in}
 use Rattle.fm_groebner.proofs.Heads.{head_to, head_from, head_level}
-use Rattle.fm_groebner.proofs.TermValues.{val, fits_of, head_of_terms}
-use Rattle.fm_groebner.proofs.MonicLists.{T, V, head_place, MemberAt, member_at, Members, AllMonic}
+use Rattle.fm_groebner.proofs.TermValues.{space, list_value, vector_value, fits_of, head_of_terms}
+use Rattle.fm_groebner.proofs.MonicLists.{head_place, MemberAt, member_at, Members, AllMonic}
 
 module _ (p : Prime) (n m : ℕ) (o : Order) where
   abbrev X : setting.Setting
-  X = T p n m o
+  X = space p n m o
 
   abbrev W : List (Polynomial p n) → Vect X
-  W v = val p n m o v
+  W v = vector_value p n m o v
 
   -- the vectors of the generators
   abbrev pub Generated : List (List (Polynomial p n)) → Vect X → Type 0
@@ -88,7 +88,7 @@ module _ (p : Prime) (n m : ℕ) (o : Order) where
           let k = number_of_in x.1 in
           let w = well k.0 x.0 k.1 in
           subst (InImage p n (generators p n m gens)) x.2
-          (image_of gens (vector_of p n m x.0) (length_vector p n m x.0) (basis.members (V p n m o x.0) (head_place p n m o x.0 w.0) (k.0, member_at w.0 w.1 k.1)))
+          (image_of gens (vector_of p n m x.0) (length_vector p n m x.0) (basis.members (list_value p n m o x.0) (head_place p n m o x.0 w.0) (k.0, member_at w.0 w.1 k.1)))
 
   -- ---- from vectors of polynomials to functions
   -- the members, each divided by its leading coefficient

@@ -10,6 +10,7 @@ use Rattle.fm_algebra.specs.PolynomialMatrices.{InImage, vector_twist}
 use Rattle.fm_algebra.proofs.Gf.{gf_laws}
 use Rattle.fm_algebra.proofs.PolynomialWords.{coefficient_zero}
 use Rattle.fm_algebra.proofs.Concrete.{polynomials_laws}
+use Rattle.fm_groebner.proofs.TermValues.{space, list_value, vector_value}
 use Rattle.fm_groebner.proofs.Vectors.{length_vector}
 use Rattle.fm_groebner.specs.Terms.{Term, IsFalling, AreFalling, IsMonic, AreMonic, twisted_terms, IsBelowBlock, vector_of, vectors_of}
 use Rattle.fm_groebner.specs.Bases.{vector_component, IsHead, generators, IsGroebnerBasis}
@@ -25,8 +26,7 @@ use Rattle.fm_groebner.proofs.Monomials.{Monomial}
 use Rattle.fm_groebner.proofs.Ordered.{ordered}
 use Rattle.fm_groebner.proofs.Values.{value_finite}
 use Rattle.fm_groebner.proofs.Numbers.{in_of_contains, contains_of_in, in_of_number, number_of_in}
-use Rattle.fm_groebner.proofs.TermValues.{val}
-use Rattle.fm_groebner.proofs.MonicLists.{T, V, head_place, MemberAt, member_at, AllMonic}
+use Rattle.fm_groebner.proofs.MonicLists.{head_place, MemberAt, member_at, AllMonic}
 use Rattle.fm_groebner.proofs.Bases.{Generated, Divided, divided_monic, groebner_of_basis, basis_of_members, span_of, image_of, image_length}
 use Rattle.fm_groebner.proofs.Membership.{membership}
 use Rattle.fm_groebner.proofs.Logs.{groebner_of_log, members_of_run, groebner_of_s_vectors, s_vector_span, input_span}
@@ -38,7 +38,7 @@ use Rattle.fm_groebner.proofs.GraphMatrices.{zeros, component_left, component_ze
 
 module _ (p : Prime) (n m : ℕ) (o : Order) where
   abbrev X : setting.Setting
-  X = T p n m o
+  X = space p n m o
 
   pub reduction_of_vector : (members : List (List Term)) (v : List Term) → AreFalling p n m o members → IsFalling p n m o v → (by : List ℕ) × (r : List Term) × ReducesBy p n m o members by v r × IsIrreducible members r
   reduction_of_vector members v falling f = reduction_exists p n m o members (λ k x i. falling x (contains_of_in (in_of_number i))) v f
@@ -58,7 +58,7 @@ module _ (p : Prime) (n m : ℕ) (o : Order) where
     generated_finite g v = finite_eq X v.2 (value_finite (ordered o n) (gf p) (gf_laws p) (gf_is_zero p) m v.0)
 
     divided_span : (g : Vect X) (h : ℕ × Monomial n) → Divided p n m o members g h → Span X (Generated p n m o members) g
-    divided_span g h d = lin_comb d.factor (span_member X (d.vector, d.is_member, λ b. refl)) (lin_nil X) (λ b. scale_only (gf_laws p) d.factor (val p n m o d.vector b) (g b) (d.is b))
+    divided_span g h d = lin_comb d.factor (span_member X (d.vector, d.is_member, λ b. refl)) (lin_nil X) (λ b. scale_only (gf_laws p) d.factor (vector_value p n m o d.vector b) (g b) (d.is b))
 
     to_gens : (v : List (Polynomial p n)) → InImage p n (generators p n m members) v → InImage p n (generators p n m gens) v
     to_gens v i = image_of p n m o gens v (image_length p n m o members v i)
@@ -68,7 +68,7 @@ module _ (p : Prime) (n m : ℕ) (o : Order) where
     to_members v i = image_of p n m o members v (image_length p n m o gens v i) (elim (head_of_finite X (value_finite (ordered o n) (gf p) (gf_laws p) (gf_is_zero p) m v)) [
       | inl z ↦ lin_zero z
       | inr t ↦ span_of_rep X divided_span
-          (standard_rep X (divided_monic p n m o members) (groebner_of_basis p n m o members gens basis) generated_finite t.0 (val p n m o v) (span_of p n m o gens v i) t.1)
+          (standard_rep X (divided_monic p n m o members) (groebner_of_basis p n m o members gens basis) generated_finite t.0 (vector_value p n m o v) (span_of p n m o gens v i) t.1)
     ])
 
     pub basis_generates : (v : List (Polynomial p n)) → InImage p n (generators p n m members) v ↔ InImage p n (generators p n m gens) v
@@ -87,7 +87,7 @@ module _ (p : Prime) (n m : ℕ) (o : Order) where
         let k = number_of_in (in_of_contains ms x c) in
         let r = members_of_run p n m o inputs run in
         let w = r.0 k.0 x k.1 in
-        image_of p n m o (vectors_of p n m inputs) (vector_of p n m x) (length_vector p n m x) (r.1 (V p n m o x) (head_place p n m o x w.0) (k.0, member_at w.0 w.1 k.1))
+        image_of p n m o (vectors_of p n m inputs) (vector_of p n m x) (length_vector p n m x) (r.1 (list_value p n m o x) (head_place p n m o x w.0) (k.0, member_at w.0 w.1 k.1))
 
   -- ---- Buchberger's criterion
   module _ {ms : List (List Term)} (well : (x : List Term) → Contains ms x → IsFalling p n m o x × IsMonic x) where
@@ -150,7 +150,7 @@ module _ (p : Prime) (n : ℕ) (o : Order) where
   head_unique v i j a b hd hd' =
       let h = head_to p n (length v) o v refl i a hd in
       let h' = head_to p n (length v) o v refl j b hd' in
-      let e = head_one (T p n (length v) o) h.3 h'.3 in
+      let e = head_one (space p n (length v) o) h.3 h'.3 in
       let level : length v - i ≡ length v - j = ap (λ z. z.0) e in
       let x = h.1 in
       let y = h'.1 in

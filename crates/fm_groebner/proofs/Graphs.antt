@@ -26,8 +26,8 @@ use Rattle.fm_groebner.proofs.Monomials.{Monomial}
 use Rattle.fm_groebner.proofs.Ordered.{ordered}
 use Rattle.fm_groebner.proofs.Values.{value_finite}
 use Rattle.fm_groebner.proofs.Numbers.{in_of_contains, contains_of_in, in_of_map}
-use Rattle.fm_groebner.proofs.TermValues.{val, head_of_terms}
-use Rattle.fm_groebner.proofs.MonicLists.{T, V, head_place, reduces_falling}
+use Rattle.fm_groebner.proofs.TermValues.{space, list_value, vector_value, head_of_terms}
+use Rattle.fm_groebner.proofs.MonicLists.{head_place, reduces_falling}
 use Rattle.fm_groebner.proofs.Bases.{Generated, Divided, divided_monic, groebner_of_basis, image_vector, span_of, image_of, image_length}
 use Rattle.fm_groebner.proofs.Blocks as Blocks
 use Rattle.fm_groebner.proofs.Blocks.{component_sum, upper_dec, lower_level, upper_zero, below_of_upper, upper_same, upper_of_rest}
@@ -66,10 +66,10 @@ module _ (p : Prime) (n : ℕ) (o : Order) where
 
     module _ (members : List (List (Polynomial p n))) (basis : IsGraphBasis p n o A members) where
       abbrev X : setting.Setting
-      X = T p n (m + c) o
+      X = space p n (m + c) o
 
       abbrev W : List (Polynomial p n) → Vect X
-      W v = val p n (m + c) o v
+      W v = vector_value p n (m + c) o v
 
       abbrev columns : List (List (Polynomial p n))
       columns = (graph p n A).columns
@@ -161,10 +161,10 @@ module _ (p : Prime) (n : ℕ) (o : Order) where
         {by : List ℕ} {t r : List Term} (red : ReducesBy p n (m + c) o ms by t r) (falls : IsFalling p n (m + c) o t) (v : List (Polynomial p n)) (fits : length v ≡ m)
         (is : vector_of p n (m + c) t ≡ v ++ zero_vector p n c) where
       abbrev Z : setting.Setting
-      Z = T p n (m + c) o
+      Z = space p n (m + c) o
 
       abbrev U : List (Polynomial p n) → Vect Z
-      U w = val p n (m + c) o w
+      U w = vector_value p n (m + c) o w
 
       rest : List (Polynomial p n)
       rest = vector_of p n (m + c) r
@@ -175,10 +175,10 @@ module _ (p : Prime) (n : ℕ) (o : Order) where
       abbrev basis_family : setting.IsGroebner Z (Divided p n (m + c) o (vectors_of p n (m + c) ms)) (Generated p n (m + c) o graph_columns)
       basis_family = groebner_of_basis p n (m + c) o (vectors_of p n (m + c) ms) graph_columns basis
 
-      reduction : setting.Reduces Z (Divided p n (m + c) o (vectors_of p n (m + c) ms)) (V p n (m + c) o t) (V p n (m + c) o r)
+      reduction : setting.Reduces Z (Divided p n (m + c) o (vectors_of p n (m + c) ms)) (list_value p n (m + c) o t) (list_value p n (m + c) o r)
       reduction = reduces_divided p n (m + c) o ms falling red falls
 
-      difference_span : Span Z (Generated p n (m + c) o graph_columns) (λ b. (gf p).add ((gf p).mul ((gf p).neg (gf p).one) (V p n (m + c) o r b)) (V p n (m + c) o t b))
+      difference_span : Span Z (Generated p n (m + c) o graph_columns) (λ b. (gf p).add ((gf p).mul ((gf p).neg (gf p).one) (list_value p n (m + c) o r b)) (list_value p n (m + c) o t b))
       difference_span = reduces_span Z basis_family.members reduction
 
       -- v over zeros is the rest and a vector of the graph
@@ -195,7 +195,7 @@ module _ (p : Prime) (n : ℕ) (o : Order) where
               u.1,
               λ i h. ap (λ x. component P x i) (sym is)
                   ∙ component_sum p n o (m + c) (vector_of p n (m + c) t) (vector_of p n (m + c) r) d.0
-                  (λ b. sum_back (gf_laws p) (V p n (m + c) o r b) (V p n (m + c) o t b) ∙ ap ((gf p).add (V p n (m + c) o r b)) (d.2 b)) i h
+                  (λ b. sum_back (gf_laws p) (list_value p n (m + c) o r b) (list_value p n (m + c) o t b) ∙ ap ((gf p).add (list_value p n (m + c) o r b)) (d.2 b)) i h
                   ∙ ap (λ x. P.add (component P (vector_of p n (m + c) r) i) (component P x i)) u.2,
             ),
           )
@@ -236,25 +236,25 @@ module _ (p : Prime) (n : ℕ) (o : Order) where
       -- where v is in the image, the upper block of an irreducible rest is zero
       module _ (irreducible : IsIrreducible ms r) (x : List (Polynomial p n)) (size : length x ≡ c) (solves : apply P A x ≡ v) where
         Y : Vect Z
-        Y b = (gf p).add ((gf p).mul ((gf p).neg (gf p).one) ((gf p).add ((gf p).mul ((gf p).neg (gf p).one) (V p n (m + c) o r b)) (V p n (m + c) o t b))) (U (v ++ x) b)
+        Y b = (gf p).add ((gf p).mul ((gf p).neg (gf p).one) ((gf p).add ((gf p).mul ((gf p).neg (gf p).one) (list_value p n (m + c) o r b)) (list_value p n (m + c) o t b))) (U (v ++ x) b)
 
         y_span : Span Z (Generated p n (m + c) o graph_columns) Y
         unfolding Y
         y_span = lin_comb ((gf p).neg (gf p).one) difference_span
             (span_of p n (m + c) o graph_columns (v ++ x) (subst (λ u. InImage p n (generators p n (m + c) graph_columns) (u ++ x)) solves (graph_of x size))) (λ b. refl)
 
-        y_upper : (b : ℕ × Monomial n) → Upper b → Y b ≡ V p n (m + c) o r b
+        y_upper : (b : ℕ × Monomial n) → Upper b → Y b ≡ list_value p n (m + c) o r b
         unfolding Y
-        y_upper b up = ap ((gf p).add ((gf p).mul ((gf p).neg (gf p).one) ((gf p).add ((gf p).mul ((gf p).neg (gf p).one) (V p n (m + c) o r b)) (V p n (m + c) o t b))))
+        y_upper b up = ap ((gf p).add ((gf p).mul ((gf p).neg (gf p).one) ((gf p).add ((gf p).mul ((gf p).neg (gf p).one) (list_value p n (m + c) o r b)) (list_value p n (m + c) o t b))))
             (upper_same p n o m c v x (zero_vector p n c) fits b up ∙ ap (λ u. U u b) (sym is))
-            ∙ sym (diff_back (gf_laws p) (V p n (m + c) o r b) (V p n (m + c) o t b))
+            ∙ sym (diff_back (gf_laws p) (list_value p n (m + c) o r b) (list_value p n (m + c) o t b))
 
         head_low : (s : Term) (rs : List Term) (f : IsFalling p n (m + c) o (s ∷ rs)) → r ≡ s ∷ rs → ¬ (Upper (head_place p n (m + c) o (s ∷ rs) f))
         head_low s rs f e up = divides_listed p n (m + c) o ms falling s rs f (subst (IsIrreducible ms) e irreducible)
             (basis_family.heads Y (head_place p n (m + c) o (s ∷ rs) f) y_span y_head)
           where
-            hd : setting.IsHead Z (V p n (m + c) o r) (head_place p n (m + c) o (s ∷ rs) f)
-            hd = subst (λ z. setting.IsHead Z (V p n (m + c) o z) (head_place p n (m + c) o (s ∷ rs) f)) (sym e) (head_of_terms p n (m + c) o s rs f)
+            hd : setting.IsHead Z (list_value p n (m + c) o r) (head_place p n (m + c) o (s ∷ rs) f)
+            hd = subst (λ z. setting.IsHead Z (list_value p n (m + c) o z) (head_place p n (m + c) o (s ∷ rs) f)) (sym e) (head_of_terms p n (m + c) o s rs f)
 
             level_up : (b : ℕ × Monomial n) → Z.Less (head_place p n (m + c) o (s ∷ rs) f) b → c ≤ b.0
             level_up b (inl l) = omega (arith, up, l)

@@ -21,7 +21,7 @@ use Rattle.fm_groebner.proofs.Monomials.{Monomial}
 use Rattle.fm_groebner.proofs.Ordered.{ordered}
 use Rattle.fm_groebner.proofs.PlaceOrder.{less_of_cmp, cmp_of_less, cmp_flip}
 use Rattle.fm_groebner.proofs.Values.{component_from, value_is}
-use Rattle.fm_groebner.proofs.TermValues.{S, val, val_outside}
+use Rattle.fm_groebner.proofs.TermValues.{space, vector_value, val_outside}
 
 module _ (p : Prime) (n m : ℕ) (o : Order) where
   -- a coefficient is zero in the field where its number is
@@ -57,7 +57,7 @@ module _ (p : Prime) (n m : ℕ) (o : Order) where
   ]
 
   -- the coefficient of x^a * e_i
-  pub val_coefficient : (v : List (Polynomial p n)) (i : ℕ) (a : Monomial n) → 0 < i → i ≤ m → (val p n m o v (m - i, a)).number ≡ coefficient p n (vector_component p n v i) a.exponents
+  pub val_coefficient : (v : List (Polynomial p n)) (i : ℕ) (a : Monomial n) → 0 < i → i ≤ m → (vector_value p n m o v (m - i, a)).number ≡ coefficient p n (vector_component p n v i) a.exponents
   unfolding coefficient
   val_coefficient v zero a h k = absurd (omega (arith, h))
   val_coefficient v (suc i) a h k = ap (λ x. x.number) (value_is (ordered o n) (gf p) (gf_laws p) (gf_is_zero p) m v (m - suc i, a)
@@ -65,8 +65,8 @@ module _ (p : Prime) (n m : ℕ) (o : Order) where
 
   -- a head of a vector of polynomials is one of its function
   pub head_to : (v : List (Polynomial p n)) → length v ≡ m → (i : ℕ) (a : List ℕ) → IsHead p n o v i a
-      → (0 < i) × (i ≤ m) × (fits : length a ≡ n) × setting.IsHead (S p n m o) (val p n m o v) (m - i, record { exponents = a; fits = fits })
-  head_to v l i a hd = (pos, within, fits, ((λ e. hd.nonzero (sym (val_coefficient v i at pos within) ∙ number_of_zero (val p n m o v (m - i, at)) e)), above))
+      → (0 < i) × (i ≤ m) × (fits : length a ≡ n) × setting.IsHead (space p n m o) (vector_value p n m o v) (m - i, record { exponents = a; fits = fits })
+  head_to v l i a hd = (pos, within, fits, ((λ e. hd.nonzero (sym (val_coefficient v i at pos within) ∙ number_of_zero (vector_value p n m o v (m - i, at)) e)), above))
     where
       bounds : (0 < i) × (i ≤ m)
       bounds = component_within v l i a hd.nonzero
@@ -86,30 +86,30 @@ module _ (p : Prime) (n m : ℕ) (o : Order) where
       level : (k : ℕ) → k < m → m - (m - k) ≡ k
       level k h = omega arith
 
-      greater : (k : ℕ) (b : Monomial n) → k < m → (S p n m o).Less (m - i, at) (k, b) → place_cmp o (m - k) b.exponents i a ≡ Greater
+      greater : (k : ℕ) (b : Monomial n) → k < m → (space p n m o).Less (m - i, at) (k, b) → place_cmp o (m - k) b.exponents i a ≡ Greater
       greater k b h less = cmp_flip o (m - k) i b.exponents a
-          ∙ ap ordering_reverse (cmp_of_less o n m i (m - k) at b within (omega arith) (subst (λ z. (S p n m o).Less (m - i, at) (z, b)) (sym (level k h)) less))
+          ∙ ap ordering_reverse (cmp_of_less o n m i (m - k) at b within (omega arith) (subst (λ z. (space p n m o).Less (m - i, at) (z, b)) (sym (level k h)) less))
 
-      above : (b : ℕ × Monomial n) → (S p n m o).Less (m - i, at) b → val p n m o v b ≡ (gf p).zero
+      above : (b : ℕ × Monomial n) → (space p n m o).Less (m - i, at) b → vector_value p n m o v b ≡ (gf p).zero
       above b less = elim (dec_lt b.0 m) [
         | no w ↦ val_outside p n m o v b w
         | yes h ↦ elim (ℕ_discrete (coefficient p n (vector_component p n v (m - b.0)) b.1.exponents) 0) [
-          | yes z ↦ zero_of_number (val p n m o v b) (ap (λ k. (val p n m o v (k, b.1)).number) (sym (level b.0 h)) ∙ val_coefficient v (m - b.0) b.1 (omega (arith, h)) (omega arith) ∙ z)
+          | yes z ↦ zero_of_number (vector_value p n m o v b) (ap (λ k. (vector_value p n m o v (k, b.1)).number) (sym (level b.0 h)) ∙ val_coefficient v (m - b.0) b.1 (omega (arith, h)) (omega arith) ∙ z)
           | no nz ↦ absurd (hd.greatest (m - b.0) b.1.exponents nz (greater b.0 b.1 h less))
         ]
       ]
 
   -- and the other way round
-  pub head_from : (v : List (Polynomial p n)) → length v ≡ m → (i : ℕ) (a : Monomial n) → 0 < i → i ≤ m → setting.IsHead (S p n m o) (val p n m o v) (m - i, a) → IsHead p n o v i a.exponents
+  pub head_from : (v : List (Polynomial p n)) → length v ≡ m → (i : ℕ) (a : Monomial n) → 0 < i → i ≤ m → setting.IsHead (space p n m o) (vector_value p n m o v) (m - i, a) → IsHead p n o v i a.exponents
   head_from v l i a pos within hd = record {
-    nonzero = λ z. hd.0 (zero_of_number (val p n m o v (m - i, a)) (val_coefficient v i a pos within ∙ z));
+    nonzero = λ z. hd.0 (zero_of_number (vector_value p n m o v (m - i, a)) (val_coefficient v i a pos within ∙ z));
     greatest = λ j b nz e.
         let w = component_within v l j b nz in
         let bm : Monomial n = record { exponents = b; fits = exponents_fit (vector_component p n v j) b nz } in
-        nz (sym (val_coefficient v j bm w.0 w.1) ∙ number_of_zero (val p n m o v (m - j, bm))
+        nz (sym (val_coefficient v j bm w.0 w.1) ∙ number_of_zero (vector_value p n m o v (m - j, bm))
         (hd.1 (m - j, bm) (less_of_cmp o n m i j a bm within (cmp_flip o i j a.exponents b ∙ ap ordering_reverse e))));
   }
 
   -- the place of a head has a component
-  pub head_level : (v : List (Polynomial p n)) (b : ℕ × Monomial n) → setting.IsHead (S p n m o) (val p n m o v) b → b.0 < m
+  pub head_level : (v : List (Polynomial p n)) (b : ℕ × Monomial n) → setting.IsHead (space p n m o) (vector_value p n m o v) b → b.0 < m
   head_level v b hd = elim (dec_lt b.0 m) [ yes h ↦ h | no w ↦ absurd (hd.0 (val_outside p n m o v b w)) ]

@@ -18,12 +18,12 @@ use Rattle.fm_groebner.proofs.Places.{same_place, place_lcm, place_apart}
 use Rattle.fm_groebner.proofs.Ordered.{ordered}
 use Rattle.fm_groebner.proofs.Images.{Values}
 use Rattle.fm_groebner.proofs.Numbers.{number_same, number_within, number_cases, contains_cases, in_of_number, in_of_map, number_of_in}
-use Rattle.fm_groebner.proofs.TermValues.{val, number, Fits, fits_of, all_fit, val_scaled, val_multiple}
-use Rattle.fm_groebner.proofs.MonicLists.{T, V, head_place, MemberAt, member_at, Members, at_number, AllMonic, members_monic, taken_away, reduces_falling, reduces_of_by, kept_number, kept_length, kept_old, kept_member, kept_monic, kept_rep, kept_low}
+use Rattle.fm_groebner.proofs.TermValues.{space, list_value, vector_value, number, Fits, fits_of, all_fit, val_scaled, val_multiple}
+use Rattle.fm_groebner.proofs.MonicLists.{head_place, MemberAt, member_at, Members, at_number, AllMonic, members_monic, taken_away, reduces_falling, reduces_of_by, kept_number, kept_length, kept_old, kept_member, kept_monic, kept_rep, kept_low}
 
 module _ (p : Prime) (n m : ℕ) (o : Order) (inputs : List (List Term)) where
   abbrev X : setting.Setting
-  X = T p n m o
+  X = space p n m o
 
   -- the vectors of the inputs
   abbrev pub Inputs : Vect X → Type 0
@@ -37,10 +37,10 @@ module _ (p : Prime) (n m : ℕ) (o : Order) (inputs : List (List Term)) where
   record Invariant (ms : List (List Term)) (taken : List ℕ) (treated : List (ℕ × ℕ)) : Type 0 where
     well : AllMonic p n m o ms
     members : (g : Vect X) (h : ℕ × Monomial n) → Members p n m o ms g h → Span X Inputs g
-    covered : (k : ℕ) (v : List Term) → Contains taken k → IsNumber inputs k v → Representation X (Members p n m o ms) (Anywhere X) (V p n m o v)
+    covered : (k : ℕ) (v : List Term) → Contains taken k → IsNumber inputs k v → Representation X (Members p n m o ms) (Anywhere X) (list_value p n m o v)
     good : (a b : ℕ) → Contains treated (a, b) → (a ≤ length ms) × (b ≤ length ms) × GoodAt ms a b
 
-  pub input_span : {k : ℕ} {v : List Term} → IsNumber inputs k v → Span X Inputs (V p n m o v)
+  pub input_span : {k : ℕ} {v : List Term} → IsNumber inputs k v → Span X Inputs (list_value p n m o v)
   input_span {k} {v} i = span_member X (vector_of p n m v, in_map (vector_of p n m) (in_of_number i), λ b. refl)
 
   reduces_from : {G : Family X} {u v r : Vect X} → ((b : ℕ × Monomial n) → u b ≡ v b) → Reduces X G v r → Reduces X G u r
@@ -51,13 +51,13 @@ module _ (p : Prime) (n m : ℕ) (o : Order) (inputs : List (List Term)) where
   old_member ke k l (member_at f mo i) = member_at f mo (kept_old p n m o ke l i)
 
   -- a kept rest of the span keeps the members in the span
-  kept_span : {ms more : List (List Term)} {keep : Bool} {r : List Term} → IsKept p ms keep r more → IsFalling p n m o r → Span X Inputs (V p n m o r)
+  kept_span : {ms more : List (List Term)} {keep : Bool} {r : List Term} → IsKept p ms keep r more → IsFalling p n m o r → Span X Inputs (list_value p n m o r)
       → ((g : Vect X) (h : ℕ × Monomial n) → Members p n m o ms g h → Span X Inputs g) → (g : Vect X) (h : ℕ × Monomial n) → Members p n m o more g h → Span X Inputs g
   kept_span dropped f s old g h i = old g h i
   kept_span (kept {s = s} {r = r} c e) f sp old g h (k, member_at fx mo i) = elim (number_cases _ _ i) [
     | inl j ↦ old g h (k, member_at fx mo j)
-    | inr q ↦ subst (λ z. Span X Inputs (V p n m o z)) (sym q.1) (lin_comb (number p n m o c) sp (lin_nil X)
-        (λ b. scale_only (gf_laws p) (number p n m o c) (V p n m o (s ∷ r) b) (V p n m o (scaled_terms p c (s ∷ r)) b) (val_scaled p n m o c (s ∷ r) (all_fit p n m o (s ∷ r) f) b)))
+    | inr q ↦ subst (λ z. Span X Inputs (list_value p n m o z)) (sym q.1) (lin_comb (number p n m o c) sp (lin_nil X)
+        (λ b. scale_only (gf_laws p) (number p n m o c) (list_value p n m o (s ∷ r) b) (list_value p n m o (scaled_terms p c (s ∷ r)) b) (val_scaled p n m o c (s ∷ r) (all_fit p n m o (s ∷ r) f) b)))
   ]
 
   good_more : {ms more : List (List Term)} {keep : Bool} {r : List Term} → IsKept p ms keep r more → (a b : ℕ) → (a ≤ length ms) × (b ≤ length ms) × GoodAt ms a b
@@ -71,18 +71,18 @@ module _ (p : Prime) (n m : ℕ) (o : Order) (inputs : List (List Term)) where
   -- the vector that is taken up is a sum of multiples of the new members, and the rest is in the span
   module _ {ms more : List (List Term)} {by : List ℕ} {keep : Bool} {v r : List Term} (well : AllMonic p n m o ms)
       (red : ReducesBy p n m o ms by v r) (falls : IsFalling p n m o v) (ke : IsKept p ms keep r more) where
-    taken_rep : Representation X (Members p n m o more) (Anywhere X) (V p n m o v)
+    taken_rep : Representation X (Members p n m o more) (Anywhere X) (list_value p n m o v)
     taken_rep = reduces_rep X (members_monic p n m o ms) (all_segment X) (λ g h i. (i.0, kept_member p n m o ke i.0 g h i.1)) (reduces_of_by p n m o well red falls)
         (λ b w. absurd (w tt)) (kept_rep p n m o ke (reduces_falling p n m o red falls))
 
-    rest_span : ((g : Vect X) (h : ℕ × Monomial n) → Members p n m o ms g h → Span X Inputs g) → Span X Inputs (V p n m o v) → Span X Inputs (V p n m o r)
+    rest_span : ((g : Vect X) (h : ℕ × Monomial n) → Members p n m o ms g h → Span X Inputs g) → Span X Inputs (list_value p n m o v) → Span X Inputs (list_value p n m o r)
     rest_span members s = rest_of_span X members (reduces_of_by p n m o well red falls) s
 
   good_at : {ms : List (List Term)} {a b : ℕ} {x y : List Term} → IsNumber ms a x → (f : IsFalling p n m o x) → IsNumber ms b y → (f' : IsFalling p n m o y)
-      → Good X (Members p n m o ms) (V p n m o x) (head_place p n m o x f) (V p n m o y) (head_place p n m o y f') → GoodAt ms a b
+      → Good X (Members p n m o ms) (list_value p n m o x) (head_place p n m o x f) (list_value p n m o y) (head_place p n m o y f') → GoodAt ms a b
   good_at {ms} {x = x} i f j f' base g h g' h' mi mj =
       at_number p n m o i f (λ u k. Good X (Members p n m o ms) u k g' h')
-      (at_number p n m o j f' (λ u k. Good X (Members p n m o ms) (V p n m o x) (head_place p n m o x f) u k) base mj) mi
+      (at_number p n m o j f' (λ u k. Good X (Members p n m o ms) (list_value p n m o x) (head_place p n m o x f) u k) base mj) mi
 
   abbrev monomial_of : (t : Term) → Fits p n m o t → Monomial n
   monomial_of t f = record { exponents = t.exponents; fits = f.exponents }
@@ -98,36 +98,36 @@ module _ (p : Prime) (n m : ℕ) (o : Order) (inputs : List (List Term)) where
     heads_lcm = place_lcm (ordered o n) (gf p) (gf_laws p) (gf_is_zero p) (head_place p n m o (t ∷ ts) ft) (head_place p n m o (u ∷ us) fu) (ap (λ x. m - x) e)
 
     abbrev s_vector : Vect X
-    s_vector b = (gf p).add ((gf p).mul ((gf p).neg (gf p).one) (shift X (difference (maximum left right) right) (V p n m o (u ∷ us)) b)) (shift X (difference (maximum left right) left) (V p n m o (t ∷ ts)) b)
+    s_vector b = (gf p).add ((gf p).mul ((gf p).neg (gf p).one) (shift X (difference (maximum left right) right) (list_value p n m o (u ∷ us)) b)) (shift X (difference (maximum left right) left) (list_value p n m o (t ∷ ts)) b)
 
-    s_vector_is : (v : List Term) → IsSVector p n m o t u ts us v → (b : ℕ × Monomial n) → s_vector b ≡ V p n m o v b
+    s_vector_is : (v : List Term) → IsSVector p n m o t u ts us v → (b : ℕ × Monomial n) → s_vector b ≡ list_value p n m o v b
     s_vector_is v sv b = sym (
         taken_away p n m o v (multiple_terms p 1 (difference (maximum left right) left).exponents (t ∷ ts)) (u ∷ us) 1 (difference (maximum left right) right) (all_fit p n m o (u ∷ us) fu) sv.is b
-        ∙ ap ((gf p).add ((gf p).mul ((gf p).neg (gf p).one) (shift X (difference (maximum left right) right) (V p n m o (u ∷ us)) b)))
+        ∙ ap ((gf p).add ((gf p).mul ((gf p).neg (gf p).one) (shift X (difference (maximum left right) right) (list_value p n m o (u ∷ us)) b)))
         (val_multiple p n m o 1 (difference (maximum left right) left) (t ∷ ts) (all_fit p n m o (t ∷ ts) ft) b
-        ∙ (gf_laws p).one_mul (shift X (difference (maximum left right) left) (V p n m o (t ∷ ts)) b)))
+        ∙ (gf_laws p).one_mul (shift X (difference (maximum left right) left) (list_value p n m o (t ∷ ts)) b)))
 
     -- a pair whose S-vector was taken up is good
     pair_good : {ms more : List (List Term)} {by : List ℕ} {keep : Bool} {v r : List Term} {a b : ℕ} → AllMonic p n m o ms → IsMonic (t ∷ ts) → IsMonic (u ∷ us)
         → IsNumber ms a (t ∷ ts) → IsNumber ms b (u ∷ us) → IsSVector p n m o t u ts us v → ReducesBy p n m o ms by v r → IsKept p ms keep r more
-        → Good X (Members p n m o more) (V p n m o (t ∷ ts)) (head_place p n m o (t ∷ ts) ft) (V p n m o (u ∷ us)) (head_place p n m o (u ∷ us) fu)
+        → Good X (Members p n m o more) (list_value p n m o (t ∷ ts)) (head_place p n m o (t ∷ ts) ft) (list_value p n m o (u ∷ us)) (head_place p n m o (u ∷ us) fu)
     pair_good {ms} {r = r} {a = a} {b = b} well mt mu i j sv by_red ke =
         let red = reduces_from (s_vector_is _ sv) (reduces_of_by p n m o well by_red sv.falls) in
         good_of_reduces X (members_monic p n m o ms) (λ g h k. (k.0, kept_member p n m o ke k.0 g h k.1))
-        (V p n m o (t ∷ ts)) (head_place p n m o (t ∷ ts) ft) (V p n m o (u ∷ us)) (head_place p n m o (u ∷ us) fu)
-        (difference (maximum left right) left) (difference (maximum left right) right) (V p n m o r) (a, member_at ft mt i) (b, member_at fu mu j) heads_lcm red
+        (list_value p n m o (t ∷ ts)) (head_place p n m o (t ∷ ts) ft) (list_value p n m o (u ∷ us)) (head_place p n m o (u ∷ us) fu)
+        (difference (maximum left right) left) (difference (maximum left right) right) (list_value p n m o r) (a, member_at ft mt i) (b, member_at fu mu j) heads_lcm red
         (kept_low p n m o ke (reduces_falling p n m o by_red sv.falls) (X.◌•◌ (difference (maximum left right) left) (head_place p n m o (t ∷ ts) ft))
         (reduces_in X (members_monic p n m o ms) (below_segment X (X.◌•◌ (difference (maximum left right) left) (head_place p n m o (t ∷ ts) ft))) red
-        (s_vector_below X (members_monic p n m o ms) (V p n m o (t ∷ ts)) (head_place p n m o (t ∷ ts) ft) (V p n m o (u ∷ us)) (head_place p n m o (u ∷ us) fu)
+        (s_vector_below X (members_monic p n m o ms) (list_value p n m o (t ∷ ts)) (head_place p n m o (t ∷ ts) ft) (list_value p n m o (u ∷ us)) (head_place p n m o (u ∷ us) fu)
         (difference (maximum left right) left) (difference (maximum left right) right) (a, member_at ft mt i) (b, member_at fu mu j) heads_lcm.meets)))
 
     -- the S-vector lies in the span
     pub s_vector_span : {ms : List (List Term)} {v : List Term} {a b : ℕ} → ((g : Vect X) (h : ℕ × Monomial n) → Members p n m o ms g h → Span X Inputs g) → IsMonic (t ∷ ts) → IsMonic (u ∷ us)
-        → IsNumber ms a (t ∷ ts) → IsNumber ms b (u ∷ us) → IsSVector p n m o t u ts us v → Span X Inputs (V p n m o v)
+        → IsNumber ms a (t ∷ ts) → IsNumber ms b (u ∷ us) → IsSVector p n m o t u ts us v → Span X Inputs (list_value p n m o v)
     s_vector_span {v = v} {a = a} {b = b} members mt mu i j sv =
         lin_comb ((gf p).neg (gf p).one)
-        (span_shift X (difference (maximum left right) right) (members (V p n m o (u ∷ us)) (head_place p n m o (u ∷ us) fu) (b, member_at fu mu j)))
-        (span_shift X (difference (maximum left right) left) (members (V p n m o (t ∷ ts)) (head_place p n m o (t ∷ ts) ft) (a, member_at ft mt i)))
+        (span_shift X (difference (maximum left right) right) (members (list_value p n m o (u ∷ us)) (head_place p n m o (u ∷ us) fu) (b, member_at fu mu j)))
+        (span_shift X (difference (maximum left right) left) (members (list_value p n m o (t ∷ ts)) (head_place p n m o (t ∷ ts) ft) (a, member_at ft mt i)))
         (λ c. sym (s_vector_is v sv c))
 
     -- what divides the least common multiple of two heads divides each common multiple
@@ -159,7 +159,7 @@ module _ (p : Prime) (n m : ℕ) (o : Order) (inputs : List (List Term)) where
     well = kept_monic p n m o ke (reduces_falling p n m o red f) inv.well;
     members = kept_span ke (reduces_falling p n m o red f) (rest_span inv.well red f ke inv.members (input_span i)) inv.members;
     covered = λ j w c i'. elim (contains_cases k taken j c) [
-      | inl e ↦ subst (λ z. Representation X (Members p n m o more) (Anywhere X) (V p n m o z)) (number_same i (subst (λ x. IsNumber inputs x w) (sym e) i')) (taken_rep inv.well red f ke)
+      | inl e ↦ subst (λ z. Representation X (Members p n m o more) (Anywhere X) (list_value p n m o z)) (number_same i (subst (λ x. IsNumber inputs x w) (sym e) i')) (taken_rep inv.well red f ke)
       | inr d ↦ rep_more X (λ g h q. (q.0, kept_member p n m o ke q.0 g h q.1)) (inv.covered j w d i')
     ];
     good = λ a b c. good_more ke a b (inv.good a b c);
@@ -209,10 +209,10 @@ module _ (p : Prime) (n m : ℕ) (o : Order) (inputs : List (List Term)) where
         good = with_pair treated a b (
           number_within i,
           number_within j,
-          good_at i wt.0 j wu.0 (good_chain X (V p n m o (t ∷ ts)) (head_place p n m o (t ∷ ts) wt.0) (V p n m o (u ∷ us)) (head_place p n m o (u ∷ us) wu.0) (V p n m o (f ∷ fs)) (head_place p n m o (f ∷ fs) wf.0)
+          good_at i wt.0 j wu.0 (good_chain X (list_value p n m o (t ∷ ts)) (head_place p n m o (t ∷ ts) wt.0) (list_value p n m o (u ∷ us)) (head_place p n m o (u ∷ us) wu.0) (list_value p n m o (f ∷ fs)) (head_place p n m o (f ∷ fs) wf.0)
               (lcm_divided t u ts us wt.0 wu.0 d.0 f fs wf.0 d)
-              (treated_good inv a k ak (V p n m o (t ∷ ts)) (head_place p n m o (t ∷ ts) wt.0) (V p n m o (f ∷ fs)) (head_place p n m o (f ∷ fs) wf.0) (member_at wt.0 wt.1 i) (member_at wf.0 wf.1 l))
-              (treated_good inv k b kb (V p n m o (f ∷ fs)) (head_place p n m o (f ∷ fs) wf.0) (V p n m o (u ∷ us)) (head_place p n m o (u ∷ us) wu.0) (member_at wf.0 wf.1 l) (member_at wu.0 wu.1 j))),
+              (treated_good inv a k ak (list_value p n m o (t ∷ ts)) (head_place p n m o (t ∷ ts) wt.0) (list_value p n m o (f ∷ fs)) (head_place p n m o (f ∷ fs) wf.0) (member_at wt.0 wt.1 i) (member_at wf.0 wf.1 l))
+              (treated_good inv k b kb (list_value p n m o (f ∷ fs)) (head_place p n m o (f ∷ fs) wf.0) (list_value p n m o (u ∷ us)) (head_place p n m o (u ∷ us) wu.0) (member_at wf.0 wf.1 l) (member_at wu.0 wu.1 j))),
         )
             inv.good;
       }
@@ -226,12 +226,12 @@ module _ (p : Prime) (n m : ℕ) (o : Order) (inputs : List (List Term)) where
   -- ---- the end
   lower_good : {ms : List (List Term)} → ((a b : ℕ) (t u : Term) (ts us : List Term) → a < b → IsNumber ms a (t ∷ ts) → IsNumber ms b (u ∷ us) → t.component ≡ u.component → GoodAt ms a b)
       → (a b : ℕ) → a < b → (x y : List Term) (f : IsFalling p n m o x) (f' : IsFalling p n m o y) → IsMonic x → IsMonic y → IsNumber ms a x → IsNumber ms b y
-      → Good X (Members p n m o ms) (V p n m o x) (head_place p n m o x f) (V p n m o y) (head_place p n m o y f')
+      → Good X (Members p n m o ms) (list_value p n m o x) (head_place p n m o x f) (list_value p n m o y) (head_place p n m o y f')
   lower_good good a b l [] y f f' mo mo' i j = absurd mo
   lower_good good a b l (t ∷ ts) [] f f' mo mo' i j = absurd mo'
   lower_good good a b l (t ∷ ts) (u ∷ us) f f' mo mo' i j = elim (ℕ_discrete t.component u.component) [
-    | yes e ↦ good a b t u ts us l i j e (V p n m o (t ∷ ts)) (head_place p n m o (t ∷ ts) f) (V p n m o (u ∷ us)) (head_place p n m o (u ∷ us) f') (member_at f mo i) (member_at f' mo' j)
-    | no w ↦ good_apart X (V p n m o (t ∷ ts)) (head_place p n m o (t ∷ ts) f) (V p n m o (u ∷ us)) (head_place p n m o (u ∷ us) f')
+    | yes e ↦ good a b t u ts us l i j e (list_value p n m o (t ∷ ts)) (head_place p n m o (t ∷ ts) f) (list_value p n m o (u ∷ us)) (head_place p n m o (u ∷ us) f') (member_at f mo i) (member_at f' mo' j)
+    | no w ↦ good_apart X (list_value p n m o (t ∷ ts)) (head_place p n m o (t ∷ ts) f) (list_value p n m o (u ∷ us)) (head_place p n m o (u ∷ us) f')
         (place_apart (ordered o n) (gf p) (gf_laws p) (gf_is_zero p) (head_place p n m o (t ∷ ts) f) (head_place p n m o (u ∷ us) f') (apart w))
   ]
     where
@@ -244,7 +244,7 @@ module _ (p : Prime) (n m : ℕ) (o : Order) (inputs : List (List Term)) where
     ordered_good a b l g h g' h' (member_at f mo i) (member_at f' mo' j) = lower_good good a b l _ _ f f' mo mo' i j
 
     self_good : (a : ℕ) (g : Vect X) (h : ℕ × Monomial n) (g' : Vect X) (h' : ℕ × Monomial n) → MemberAt p n m o ms a g h → MemberAt p n m o ms a g' h' → Good X (Members p n m o ms) g h g' h'
-    self_good a g h g' h' (member_at {x = x} f mo i) j = at_number p n m o i f (λ u k. Good X (Members p n m o ms) (V p n m o x) (head_place p n m o x f) u k) (good_self X (V p n m o x) (head_place p n m o x f)) j
+    self_good a g h g' h' (member_at {x = x} f mo i) j = at_number p n m o i f (λ u k. Good X (Members p n m o ms) (list_value p n m o x) (head_place p n m o x f) u k) (good_self X (list_value p n m o x) (head_place p n m o x f)) j
 
     pairs_good : (g : Vect X) (h : ℕ × Monomial n) (g' : Vect X) (h' : ℕ × Monomial n) → Members p n m o ms g h → Members p n m o ms g' h' → Good X (Members p n m o ms) g h g' h'
     pairs_good g h g' h' (a, i) (b, j) = elim (dec_lt a b) [
@@ -260,7 +260,7 @@ module _ (p : Prime) (n m : ℕ) (o : Order) (inputs : List (List Term)) where
   inputs_covered inv complete g (v, i, e) =
       let x = in_of_map (vector_of p n m) inputs i in
       let k = number_of_in x.1 in
-      lin_eq X (inv.covered k.0 x.0 (complete.all_taken k.0 x.0 k.1) k.1) (λ b. e b ∙ ap (λ u. val p n m o u b) (sym x.2))
+      lin_eq X (inv.covered k.0 x.0 (complete.all_taken k.0 x.0 k.1) k.1) (λ b. e b ∙ ap (λ u. vector_value p n m o u b) (sym x.2))
 
   -- the members of any log are monic and lie in the span of the inputs
   pub members_of_run : {log : List Entry} {ms : List (List Term)} {taken : List ℕ} {treated : List (ℕ × ℕ)} → FreeRun p n m o inputs log ms taken treated
@@ -278,8 +278,8 @@ module _ (p : Prime) (n m : ℕ) (o : Order) (inputs : List (List Term)) where
 module _ (p : Prime) (n m : ℕ) (o : Order) {ms : List (List Term)} (well : AllMonic p n m o ms)
     (reduces : (a b : ℕ) (t u : Term) (ts us : List Term) → a < b → IsNumber ms a (t ∷ ts) → IsNumber ms b (u ∷ us) → t.component ≡ u.component
     → (v : List Term) × (by : List ℕ) × IsSVector p n m o t u ts us v × ReducesBy p n m o ms by v []) where
-  pub groebner_of_s_vectors : IsGroebner (T p n m o) (Members p n m o ms) (Inputs p n m o ms)
-  groebner_of_s_vectors = groebner_of_good_pairs (T p n m o) (members_monic p n m o ms) (pairs_good p n m o ms good) members covered
+  pub groebner_of_s_vectors : IsGroebner (space p n m o) (Members p n m o ms) (Inputs p n m o ms)
+  groebner_of_s_vectors = groebner_of_good_pairs (space p n m o) (members_monic p n m o ms) (pairs_good p n m o ms good) members covered
     where
       good : (a b : ℕ) (t u : Term) (ts us : List Term) → a < b → IsNumber ms a (t ∷ ts) → IsNumber ms b (u ∷ us) → t.component ≡ u.component → GoodAt p n m o ms ms a b
       good a b t u ts us l i j e =
@@ -288,16 +288,16 @@ module _ (p : Prime) (n m : ℕ) (o : Order) {ms : List (List Term)} (well : All
           let s = reduces a b t u ts us l i j e in
           good_at p n m o ms i wt.0 j wu.0 (pair_good p n m o ms t u ts us wt.0 wu.0 e well wt.1 wu.1 i j s.2 s.3 dropped)
 
-      member_span : (k : ℕ) (g : Vect (T p n m o)) (h : ℕ × Monomial n) → MemberAt p n m o ms k g h → Span (T p n m o) (Inputs p n m o ms) g
+      member_span : (k : ℕ) (g : Vect (space p n m o)) (h : ℕ × Monomial n) → MemberAt p n m o ms k g h → Span (space p n m o) (Inputs p n m o ms) g
       member_span k g h (member_at f mo i) = input_span p n m o ms i
 
-      members : (g : Vect (T p n m o)) (h : ℕ × Monomial n) → Members p n m o ms g h → Span (T p n m o) (Inputs p n m o ms) g
+      members : (g : Vect (space p n m o)) (h : ℕ × Monomial n) → Members p n m o ms g h → Span (space p n m o) (Inputs p n m o ms) g
       members g h i = member_span i.0 g h i.1
 
-      covered : (g : Vect (T p n m o)) → Inputs p n m o ms g → Representation (T p n m o) (Members p n m o ms) (Anywhere (T p n m o)) g
+      covered : (g : Vect (space p n m o)) → Inputs p n m o ms g → Representation (space p n m o) (Members p n m o ms) (Anywhere (space p n m o)) g
       covered g (v, i, e) =
           let x = in_of_map (vector_of p n m) ms i in
           let k = number_of_in x.1 in
           let w = well k.0 x.0 k.1 in
-          lin_eq (T p n m o) (rep_member (T p n m o) one (V p n m o x.0) (head_place p n m o x.0 w.0) (k.0, member_at w.0 w.1 k.1) tt)
-          (λ b. e b ∙ ap (λ u. val p n m o u b) (sym x.2) ∙ sym (shift_one (T p n m o) (V p n m o x.0) b))
+          lin_eq (space p n m o) (rep_member (space p n m o) one (list_value p n m o x.0) (head_place p n m o x.0 w.0) (k.0, member_at w.0 w.1 k.1) tt)
+          (λ b. e b ∙ ap (λ u. vector_value p n m o u b) (sym x.2) ∙ sym (shift_one (space p n m o) (list_value p n m o x.0) b))

@@ -19,13 +19,13 @@ use Rattle.fm_groebner.proofs.Basis.{member_iff}
 use Rattle.fm_groebner.proofs.Monomials.{Monomial, ◌·◌, difference, times_comm, times_difference, divides_times}
 use Rattle.fm_groebner.proofs.Places.{same_place}
 use Rattle.fm_groebner.proofs.Numbers.{contains_of_in, in_of_map, in_of_number}
-use Rattle.fm_groebner.proofs.TermValues.{val, number, fits_of, place_of, all_fit, val_nil, val_head, head_of_terms, empty_of_nil, number_nonzero}
-use Rattle.fm_groebner.proofs.MonicLists.{T, V, head_place, taken_away, reduces_falling}
+use Rattle.fm_groebner.proofs.TermValues.{space, list_value, vector_value, number, fits_of, place_of, all_fit, val_nil, val_head, head_of_terms, empty_of_nil, number_nonzero}
+use Rattle.fm_groebner.proofs.MonicLists.{head_place, taken_away, reduces_falling}
 use Rattle.fm_groebner.proofs.Bases.{Divided, divided_by, divide, inverse_of, groebner_of_basis, span_of, image_of}
 
 module _ (p : Prime) (n m : ℕ) (o : Order) where
   abbrev X : setting.Setting
-  X = T p n m o
+  X = space p n m o
 
   shift_scaled : (a : Monomial n) (k : (gf p).Carrier) (u v : Vect X) → ((b : ℕ × Monomial n) → u b ≡ (gf p).mul k (v b)) → (b : ℕ × Monomial n) → shift X a u b ≡ (gf p).mul k (shift X a v b)
   shift_scaled a k u v e b = elim (shift_view X a b) [
@@ -43,7 +43,7 @@ module _ (p : Prime) (n m : ℕ) (o : Order) where
       ∙ sym (neg_mul (gf_laws p) ((gf p).mul c h) y)
 
   module _ (ms : List (List Term)) (falling : (x : List Term) → Contains ms x → IsFalling p n m o x) where
-    pub reduces_divided : {by : List ℕ} {v r : List Term} → ReducesBy p n m o ms by v r → IsFalling p n m o v → Reduces X (Divided p n m o (vectors_of p n m ms)) (V p n m o v) (V p n m o r)
+    pub reduces_divided : {by : List ℕ} {v r : List Term} → ReducesBy p n m o ms by v r → IsFalling p n m o v → Reduces X (Divided p n m o (vectors_of p n m ms)) (list_value p n m o v) (list_value p n m o r)
     reduces_divided no_more f = done (λ b. refl)
     reduces_divided (one_more {k = k} {s = s} {t = t} {vs = vs} {ts = ts} {v = v} c i d e f' q red) f =
         let w = falling (t ∷ ts) (contains_of_in (in_of_number i)) in
@@ -53,22 +53,22 @@ module _ (p : Prime) (n m : ℕ) (o : Order) where
         let of : Monomial n = record { exponents = s.exponents; fits = fs.exponents } in
         let a = difference of at in
         let meets : ◌≡◌ {A = ℕ × Monomial n} (m - t.component, a · at) (m - s.component, of) = same_place (ap (λ x. m - x) d.0) (times_comm a at ∙ times_difference at of d.1) in
-        let h = V p n m o (t ∷ ts) (place_of p n m o t ft) in
+        let h = list_value p n m o (t ∷ ts) (place_of p n m o t ft) in
         let hd = head_of_terms p n m o t ts w in
         let g = inverse_of p n m o h hd.0 in
         step ((gf p).mul (number p n m o c) h) a (divided_by p n m o g.0 (vector_of p n m (t ∷ ts))) (place_of p n m o t ft)
         (divide p n m o (vectors_of p n m ms) (vector_of p n m (t ∷ ts)) (in_map (vector_of p n m) (in_of_number i)) (place_of p n m o t ft) hd g.0 g.1)
-        (λ z. number_nonzero p n m o s.coefficient f.0.3 f.0.4 (sym (val_head p n m o s vs f) ∙ ap (V p n m o (s ∷ vs)) (sym meets) ∙ z))
+        (λ z. number_nonzero p n m o s.coefficient f.0.3 f.0.4 (sym (val_head p n m o s vs f) ∙ ap (list_value p n m o (s ∷ vs)) (sym meets) ∙ z))
         (λ b. taken_away p n m o v (s ∷ vs) (t ∷ ts) c a (all_fit p n m o (t ∷ ts) w) q b
-        ∙ ap (λ x. (gf p).add x (V p n m o (s ∷ vs) b)) (rescaled (number p n m o c) h g.0 (shift X a (V p n m o (t ∷ ts)) b) (shift X a (divided_by p n m o g.0 (vector_of p n m (t ∷ ts))) b) g.1
-        (shift_scaled a g.0 (divided_by p n m o g.0 (vector_of p n m (t ∷ ts))) (V p n m o (t ∷ ts)) (λ y. refl) b)))
+        ∙ ap (λ x. (gf p).add x (list_value p n m o (s ∷ vs) b)) (rescaled (number p n m o c) h g.0 (shift X a (list_value p n m o (t ∷ ts)) b) (shift X a (divided_by p n m o g.0 (vector_of p n m (t ∷ ts))) b) g.1
+        (shift_scaled a g.0 (divided_by p n m o g.0 (vector_of p n m (t ∷ ts))) (list_value p n m o (t ∷ ts)) (λ y. refl) b)))
         (reduces_divided red f')
 
     -- a head that a divided member's head divides is divisible by the head of a member
     pub divides_listed : (s : Term) (rs : List Term) (f : IsFalling p n m o (s ∷ rs)) → IsIrreducible ms (s ∷ rs) → ¬ (Divides X (Divided p n m o (vectors_of p n m ms)) (head_place p n m o (s ∷ rs) f))
     divides_listed s rs f irreducible d = at_member (in_of_map (vector_of p n m) ms d.in_G.is_member)
       where
-        at_list : (x : List Term) → Contains ms x → IsFalling p n m o x → setting.IsHead X (V p n m o x) d.at → ⊥
+        at_list : (x : List Term) → Contains ms x → IsFalling p n m o x → setting.IsHead X (list_value p n m o x) d.at → ⊥
         at_list [] c g hd = hd.0 (val_nil p n m o d.at)
         at_list (t ∷ ts) c g hd =
             let ft = fits_of p n m o t g.0 in
@@ -83,9 +83,9 @@ module _ (p : Prime) (n m : ℕ) (o : Order) where
             )
 
         at_member : (x : List Term) × In ms x × (vector_of p n m x ≡ d.in_G.vector) → ⊥
-        at_member x = at_list x.0 (contains_of_in x.1) (falling x.0 (contains_of_in x.1)) (subst (λ v. setting.IsHead X (val p n m o v) d.at) (sym x.2) d.in_G.is_head)
+        at_member x = at_list x.0 (contains_of_in x.1) (falling x.0 (contains_of_in x.1)) (subst (λ v. setting.IsHead X (vector_value p n m o v) d.at) (sym x.2) d.in_G.is_head)
 
-    irreducible_end : (r : List Term) → IsFalling p n m o r → IsIrreducible ms r → IsNil X (V p n m o r) ⊎ ((a : ℕ × Monomial n) × setting.IsHead X (V p n m o r) a × ¬ (Divides X (Divided p n m o (vectors_of p n m ms)) a))
+    irreducible_end : (r : List Term) → IsFalling p n m o r → IsIrreducible ms r → IsNil X (list_value p n m o r) ⊎ ((a : ℕ × Monomial n) × setting.IsHead X (list_value p n m o r) a × ¬ (Divides X (Divided p n m o (vectors_of p n m ms)) a))
     irreducible_end [] f i = inl (val_nil p n m o)
     irreducible_end (s ∷ rs) f i = inr (head_place p n m o (s ∷ rs) f, head_of_terms p n m o s rs f, divides_listed s rs f i)
 
@@ -96,5 +96,5 @@ module _ (p : Prime) (n m : ℕ) (o : Order) where
         let fr = reduces_falling p n m o red f in
         let iff = member_iff X (groebner_of_basis p n m o (vectors_of p n m ms) gens basis) (reduces_divided red f) (irreducible_end r fr i) in (
           λ im. empty_of_nil p n m o r fr (iff.0 (span_of p n m o gens (vector_of p n m v) im)),
-          λ e. image_of p n m o gens (vector_of p n m v) (length_vector p n m v) (iff.1 (subst (λ z. IsNil X (V p n m o z)) (sym e) (val_nil p n m o))),
+          λ e. image_of p n m o gens (vector_of p n m v) (length_vector p n m v) (iff.1 (subst (λ z. IsNil X (list_value p n m o z)) (sym e) (val_nil p n m o))),
         )

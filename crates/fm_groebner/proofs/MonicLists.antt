@@ -16,14 +16,11 @@ use Rattle.fm_groebner.proofs.Buchberger.{low_of_kept}
 use Rattle.fm_groebner.proofs.Monomials.{Monomial, same_monomial, one, ◌·◌, difference, times_comm, times_difference}
 use Rattle.fm_groebner.proofs.Places.{same_place}
 use Rattle.fm_groebner.proofs.Numbers.{number_same, number_left, number_last, number_cases}
-use Rattle.fm_groebner.proofs.TermValues.{S, val, terms_val, number, fits_of, place_of, AllFit, all_fit, val_nil, val_append, val_multiple, val_scaled, val_head, head_of_terms, number_nonzero, number_times}
+use Rattle.fm_groebner.proofs.TermValues.{space, list_value, vector_value, list_value, number, fits_of, place_of, AllFit, all_fit, val_nil, val_append, val_multiple, val_scaled, val_head, head_of_terms, number_nonzero, number_times}
 
 module _ (p : Prime) (n m : ℕ) (o : Order) where
-  abbrev pub T : Setting
-  T = S p n m o
-
-  abbrev pub V : List Term → Vect T
-  V x = terms_val p n m o x
+  abbrev X : Setting
+  X = space p n m o
 
   abbrev num : ℕ → (gf p).Carrier
   num c = number p n m o c
@@ -38,26 +35,26 @@ module _ (p : Prime) (n m : ℕ) (o : Order) where
   head_place_same (t ∷ ts) f g = same_place refl (same_monomial (head_place (t ∷ ts) f).1 (head_place (t ∷ ts) g).1 refl)
 
   -- the member k of a list of monic falling lists, as a vector with its head
-  pub data MemberAt (ms : List (List Term)) (k : ℕ) : Vect T → ℕ × Monomial n → Type 0 where
-    member_at : {x : List Term} (f : IsFalling p n m o x) → IsMonic x → IsNumber ms k x → MemberAt ms k (V x) (head_place x f)
+  pub data MemberAt (ms : List (List Term)) (k : ℕ) : Vect X → ℕ × Monomial n → Type 0 where
+    member_at : {x : List Term} (f : IsFalling p n m o x) → IsMonic x → IsNumber ms k x → MemberAt ms k (list_value p n m o x) (head_place x f)
 
-  abbrev pub Members : List (List Term) → Family T
+  abbrev pub Members : List (List Term) → Family X
   Members ms g h = (k : ℕ) × MemberAt ms k g h
 
-  pub at_number : {ms : List (List Term)} {k : ℕ} {x : List Term} → IsNumber ms k x → (f : IsFalling p n m o x) → (P : Vect T → ℕ × Monomial n → Type 0)
-      → P (V x) (head_place x f) → {g : Vect T} {h : ℕ × Monomial n} → MemberAt ms k g h → P g h
+  pub at_number : {ms : List (List Term)} {k : ℕ} {x : List Term} → IsNumber ms k x → (f : IsFalling p n m o x) → (P : Vect X → ℕ × Monomial n → Type 0)
+      → P (list_value p n m o x) (head_place x f) → {g : Vect X} {h : ℕ × Monomial n} → MemberAt ms k g h → P g h
   at_number {x = x} i f P base (member_at {x = y} f' mo j) =
-      subst (λ z. (u : IsFalling p n m o z) → P (V z) (head_place z u)) (number_same i j) (λ u. subst (P (V x)) (head_place_same x f u) base) f'
+      subst (λ z. (u : IsFalling p n m o z) → P (list_value p n m o z) (head_place z u)) (number_same i j) (λ u. subst (P (list_value p n m o x)) (head_place_same x f u) base) f'
 
   -- each member is falling and monic
   abbrev pub AllMonic : List (List Term) → Type 0
   AllMonic ms = (k : ℕ) (x : List Term) → IsNumber ms k x → IsFalling p n m o x × IsMonic x
 
-  monic_list : (x : List Term) (f : IsFalling p n m o x) → IsMonic x → (V x (head_place x f) ≡ (gf p).one) × ((b : ℕ × Monomial n) → T.Less (head_place x f) b → V x b ≡ (gf p).zero)
+  monic_list : (x : List Term) (f : IsFalling p n m o x) → IsMonic x → (list_value p n m o x (head_place x f) ≡ (gf p).one) × ((b : ℕ × Monomial n) → X.Less (head_place x f) b → list_value p n m o x b ≡ (gf p).zero)
   monic_list [] f mo = absurd mo
   monic_list (t ∷ ts) f mo = (val_head p n m o t ts f ∙ ap num mo, (head_of_terms p n m o t ts f).1)
 
-  pub members_monic : (ms : List (List Term)) → setting.IsMonic T (Members ms)
+  pub members_monic : (ms : List (List Term)) → setting.IsMonic X (Members ms)
   members_monic ms g h (k, member_at f mo i) = monic_list _ f mo
 
   -- ---- reduction
@@ -66,16 +63,16 @@ module _ (p : Prime) (n m : ℕ) (o : Order) where
 
   -- where v + c * x^a * g = w: v is w with c * x^a * g taken away
   pub taken_away : (v w g : List Term) (c : ℕ) (a : Monomial n) → AllFit p n m o g → vector_of p n m (v ++ multiple_terms p c a.exponents g) ≡ vector_of p n m w
-      → (b : ℕ × Monomial n) → V v b ≡ (gf p).add ((gf p).mul ((gf p).neg (num c)) (shift T a (V g) b)) (V w b)
-  taken_away v w g c a f e b = less_sum (V v b) ((gf p).mul (num c) (shift T a (V g) b)) (V w b)
-      (sym (val_append p n m o v (multiple_terms p c a.exponents g) b ∙ ap ((gf p).add (V v b)) (val_multiple p n m o c a g f b)) ∙ ap (λ u. val p n m o u b) e)
-      ∙ ap (λ x. (gf p).add x (V w b)) (sym (neg_mul (gf_laws p) (num c) (shift T a (V g) b)))
+      → (b : ℕ × Monomial n) → list_value p n m o v b ≡ (gf p).add ((gf p).mul ((gf p).neg (num c)) (shift X a (list_value p n m o g) b)) (list_value p n m o w b)
+  taken_away v w g c a f e b = less_sum (list_value p n m o v b) ((gf p).mul (num c) (shift X a (list_value p n m o g) b)) (list_value p n m o w b)
+      (sym (val_append p n m o v (multiple_terms p c a.exponents g) b ∙ ap ((gf p).add (list_value p n m o v b)) (val_multiple p n m o c a g f b)) ∙ ap (λ u. vector_value p n m o u b) e)
+      ∙ ap (λ x. (gf p).add x (list_value p n m o w b)) (sym (neg_mul (gf_laws p) (num c) (shift X a (list_value p n m o g) b)))
 
   pub reduces_falling : {ms : List (List Term)} {by : List ℕ} {v r : List Term} → ReducesBy p n m o ms by v r → IsFalling p n m o v → IsFalling p n m o r
   reduces_falling no_more f = f
   reduces_falling (one_more c i d e f' q red) f = reduces_falling red f'
 
-  pub reduces_of_by : {ms : List (List Term)} → AllMonic ms → {by : List ℕ} {v r : List Term} → ReducesBy p n m o ms by v r → IsFalling p n m o v → Reduces T (Members ms) (V v) (V r)
+  pub reduces_of_by : {ms : List (List Term)} → AllMonic ms → {by : List ℕ} {v r : List Term} → ReducesBy p n m o ms by v r → IsFalling p n m o v → Reduces X (Members ms) (list_value p n m o v) (list_value p n m o r)
   reduces_of_by well no_more f = done (λ b. refl)
   reduces_of_by well (one_more {k = k} {s = s} {t = t} {vs = vs} {ts = ts} {v = v} c i d e f' q red) f =
       let w = well k (t ∷ ts) i in
@@ -85,8 +82,8 @@ module _ (p : Prime) (n m : ℕ) (o : Order) where
       let of : Monomial n = record { exponents = s.exponents; fits = fs.exponents } in
       let a = difference of at in
       let meets : ◌≡◌ {A = ℕ × Monomial n} (m - t.component, a · at) (m - s.component, of) = same_place (ap (λ x. m - x) d.0) (times_comm a at ∙ times_difference at of d.1) in
-      step (num c) a (V (t ∷ ts)) (place_of p n m o t ft) (k, member_at w.0 w.1 i)
-      (λ z. number_nonzero p n m o s.coefficient f.0.3 f.0.4 (sym (val_head p n m o s vs f) ∙ ap (V (s ∷ vs)) (sym meets) ∙ z))
+      step (num c) a (list_value p n m o (t ∷ ts)) (place_of p n m o t ft) (k, member_at w.0 w.1 i)
+      (λ z. number_nonzero p n m o s.coefficient f.0.3 f.0.4 (sym (val_head p n m o s vs f) ∙ ap (list_value p n m o (s ∷ vs)) (sym meets) ∙ z))
       (taken_away v (s ∷ vs) (t ∷ ts) c a (all_fit p n m o (t ∷ ts) w.0) q)
       (reduces_of_by well red f')
 
@@ -132,7 +129,7 @@ module _ (p : Prime) (n m : ℕ) (o : Order) where
   kept_old dropped h i = i
   kept_old (kept c e) h i = elim (number_cases _ _ i) [ inl j ↦ j | inr q ↦ let l = q.0 in absurd (omega (arith, h, l)) ]
 
-  pub kept_member : {ms more : List (List Term)} {keep : Bool} {r : List Term} → IsKept p ms keep r more → (k : ℕ) (g : Vect T) (h : ℕ × Monomial n) → MemberAt ms k g h → MemberAt more k g h
+  pub kept_member : {ms more : List (List Term)} {keep : Bool} {r : List Term} → IsKept p ms keep r more → (k : ℕ) (g : Vect X) (h : ℕ × Monomial n) → MemberAt ms k g h → MemberAt more k g h
   kept_member ke k g h (member_at f mo i) = member_at f mo (kept_number ke i)
 
   pub kept_monic : {ms more : List (List Term)} {keep : Bool} {r : List Term} → IsKept p ms keep r more → IsFalling p n m o r → AllMonic ms → AllMonic more
@@ -144,28 +141,28 @@ module _ (p : Prime) (n m : ℕ) (o : Order) where
 
   -- the rest is a multiple of the new member
   back_of : (c : ℕ) (s : Term) (r : List Term) → (c * s.coefficient) % prime_value p ≡ 1 → IsFalling p n m o (s ∷ r) → (b : ℕ × Monomial n)
-      → V (s ∷ r) b ≡ (gf p).mul (num s.coefficient) (V (scaled_terms p c (s ∷ r)) b)
+      → list_value p n m o (s ∷ r) b ≡ (gf p).mul (num s.coefficient) (list_value p n m o (scaled_terms p c (s ∷ r)) b)
   back_of c s r e f b = sym (
       ap ((gf p).mul (num s.coefficient)) (val_scaled p n m o c (s ∷ r) (all_fit p n m o (s ∷ r) f) b)
-      ∙ sym ((gf_laws p).mul_assoc (num s.coefficient) (num c) (V (s ∷ r) b))
-      ∙ ap (λ x. (gf p).mul x (V (s ∷ r) b)) ((gf_laws p).mul_comm (num s.coefficient) (num c) ∙ sym (number_times p n m o c s.coefficient) ∙ ap num e)
-      ∙ (gf_laws p).one_mul (V (s ∷ r) b))
+      ∙ sym ((gf_laws p).mul_assoc (num s.coefficient) (num c) (list_value p n m o (s ∷ r) b))
+      ∙ ap (λ x. (gf p).mul x (list_value p n m o (s ∷ r) b)) ((gf_laws p).mul_comm (num s.coefficient) (num c) ∙ sym (number_times p n m o c s.coefficient) ∙ ap num e)
+      ∙ (gf_laws p).one_mul (list_value p n m o (s ∷ r) b))
 
-  pub kept_rep : {ms more : List (List Term)} {keep : Bool} {r : List Term} → IsKept p ms keep r more → IsFalling p n m o r → Representation T (Members more) (Anywhere T) (V r)
+  pub kept_rep : {ms more : List (List Term)} {keep : Bool} {r : List Term} → IsKept p ms keep r more → IsFalling p n m o r → Representation X (Members more) (Anywhere X) (list_value p n m o r)
   kept_rep dropped f = lin_zero (val_nil p n m o)
   kept_rep (kept {s = s} {r = r} c e) f =
       lin_comb (num s.coefficient)
-      (rep_member T T.one (V (scaled_terms p c (s ∷ r))) (head_place (scaled_terms p c (s ∷ r)) (scaled_falling c s.coefficient e (s ∷ r) f))
+      (rep_member X X.one (list_value p n m o (scaled_terms p c (s ∷ r))) (head_place (scaled_terms p c (s ∷ r)) (scaled_falling c s.coefficient e (s ∷ r) f))
       (suc (length _), member_at (scaled_falling c s.coefficient e (s ∷ r) f) e (number_last _ (scaled_terms p c (s ∷ r)))) tt)
-      (lin_nil T)
-      (λ b. scale_only (gf_laws p) (num s.coefficient) (shift T T.one (V (scaled_terms p c (s ∷ r))) b) (V (s ∷ r) b)
-      (back_of c s r e f b ∙ ap ((gf p).mul (num s.coefficient)) (sym (shift_one T (V (scaled_terms p c (s ∷ r))) b))))
+      (lin_nil X)
+      (λ b. scale_only (gf_laws p) (num s.coefficient) (shift X X.one (list_value p n m o (scaled_terms p c (s ∷ r))) b) (list_value p n m o (s ∷ r) b)
+      (back_of c s r e f b ∙ ap ((gf p).mul (num s.coefficient)) (sym (shift_one X (list_value p n m o (scaled_terms p c (s ∷ r))) b))))
 
   pub kept_low : {ms more : List (List Term)} {keep : Bool} {r : List Term} → IsKept p ms keep r more → IsFalling p n m o r
-      → (a : ℕ × Monomial n) → ((b : ℕ × Monomial n) → ¬ (T.Less b a) → V r b ≡ (gf p).zero) → Low T (Members more) a (V r)
+      → (a : ℕ × Monomial n) → ((b : ℕ × Monomial n) → ¬ (X.Less b a) → list_value p n m o r b ≡ (gf p).zero) → Low X (Members more) a (list_value p n m o r)
   kept_low dropped f a z = lin_zero (val_nil p n m o)
   kept_low (kept {s = s} {r = r} c e) f a z =
-      low_of_kept T (V (scaled_terms p c (s ∷ r))) (head_place (scaled_terms p c (s ∷ r)) (scaled_falling c s.coefficient e (s ∷ r) f))
+      low_of_kept X (list_value p n m o (scaled_terms p c (s ∷ r))) (head_place (scaled_terms p c (s ∷ r)) (scaled_falling c s.coefficient e (s ∷ r) f))
       (suc (length _), member_at (scaled_falling c s.coefficient e (s ∷ r) f) e (number_last _ (scaled_terms p c (s ∷ r)))) a
-      (place_in T (below_segment T a) (V (s ∷ r)) z (head_place (s ∷ r) f) (head_of_terms p n m o s r f).0)
-      (num s.coefficient) (V (s ∷ r)) (back_of c s r e f)
+      (place_in X (below_segment X a) (list_value p n m o (s ∷ r)) z (head_place (s ∷ r) f) (head_of_terms p n m o s r f).0)
+      (num s.coefficient) (list_value p n m o (s ∷ r)) (back_of c s r e f)

@@ -28,20 +28,20 @@ use Rattle.fm_groebner.proofs.Ordered.{ordered}
 use Rattle.fm_groebner.proofs.PlaceOrder.{cmp_of_less}
 use Rattle.fm_groebner.proofs.Values.{value_finite, same_vector}
 use Rattle.fm_groebner.proofs.Heads.{head_from, zero_of_number}
-use Rattle.fm_groebner.proofs.TermValues.{val, fits_of, place_of, Fits, number, val_cons, val_nil, val_at, val_other, val_outside, val_head, head_of_terms, empty_of_nil}
-use Rattle.fm_groebner.proofs.MonicLists.{T, V, head_place}
+use Rattle.fm_groebner.proofs.TermValues.{space, list_value, vector_value, fits_of, place_of, Fits, number, val_cons, val_nil, val_at, val_other, val_outside, val_head, head_of_terms, empty_of_nil}
+use Rattle.fm_groebner.proofs.MonicLists.{head_place}
 use Rattle.fm_groebner.proofs.GraphMatrices.{same_components}
 use Rattle.fm_groebner.proofs.Twists.{component_map, twist_zero_is, multiple_cmp}
 
 module _ (p : Prime) (n m : ℕ) (o : Order) where
   abbrev X : setting.Setting
-  X = T p n m o
+  X = space p n m o
 
   -- ---- at most one
   same_term : (t u : Term) → t.component ≡ u.component → t.exponents ≡ u.exponents → t.coefficient ≡ u.coefficient → t ≡ u
   same_term t u a b c = λ i. record { component = a i; exponents = b i; coefficient = c i }
 
-  pub same_terms : (ts us : List Term) → IsFalling p n m o ts → IsFalling p n m o us → ((b : ℕ × Monomial n) → V p n m o ts b ≡ V p n m o us b) → ts ≡ us
+  pub same_terms : (ts us : List Term) → IsFalling p n m o ts → IsFalling p n m o us → ((b : ℕ × Monomial n) → list_value p n m o ts b ≡ list_value p n m o us b) → ts ≡ us
   same_terms [] us f g e = sym (empty_of_nil p n m o us g (λ b. sym (e b) ∙ val_nil p n m o b))
   same_terms (t ∷ ts) [] f g e = empty_of_nil p n m o (t ∷ ts) f (λ b. e b ∙ val_nil p n m o b)
   same_terms (t ∷ ts) (u ∷ us) f g e =
@@ -50,26 +50,26 @@ module _ (p : Prime) (n m : ℕ) (o : Order) where
       let a = f.0.1 in
       let b = g.0.1 in
       let first : t ≡ u = same_term t u (omega (arith, level, a, b)) (ap (λ z. z.1.exponents) place) (same_number (
-      sym (val_head p n m o t ts f) ∙ e (head_place p n m o (t ∷ ts) f) ∙ ap (V p n m o (u ∷ us)) place ∙ val_head p n m o u us g)) in
-      ap₂ (λ x y. x ∷ y) first (same_terms ts us f.2 g.2 (λ c. add_cancel (gf_laws p) (V p n m o (t ∷ []) c) (V p n m o ts c) (V p n m o us c)
-      (sym (val_cons p n m o t ts c) ∙ e c ∙ val_cons p n m o u us c ∙ ap (λ z. (gf p).add (V p n m o (z ∷ []) c) (V p n m o us c)) (sym first))))
+      sym (val_head p n m o t ts f) ∙ e (head_place p n m o (t ∷ ts) f) ∙ ap (list_value p n m o (u ∷ us)) place ∙ val_head p n m o u us g)) in
+      ap₂ (λ x y. x ∷ y) first (same_terms ts us f.2 g.2 (λ c. add_cancel (gf_laws p) (list_value p n m o (t ∷ []) c) (list_value p n m o ts c) (list_value p n m o us c)
+      (sym (val_cons p n m o t ts c) ∙ e c ∙ val_cons p n m o u us c ∙ ap (λ z. (gf p).add (list_value p n m o (z ∷ []) c) (list_value p n m o us c)) (sym first))))
     where
       same_number : number p n m o t.coefficient ≡ number p n m o u.coefficient → t.coefficient ≡ u.coefficient
       same_number q = sym (mod-eq_of_lt f.0.4) ∙ ap (λ x. x.number) q ∙ mod-eq_of_lt g.0.4
 
   pub terms_unique : (ts us : List Term) → IsFalling p n m o ts → IsFalling p n m o us → vector_of p n m ts ≡ vector_of p n m us → ts ≡ us
-  terms_unique ts us f g e = same_terms ts us f g (λ b. ap (λ v. val p n m o v b) e)
+  terms_unique ts us f g e = same_terms ts us f g (λ b. ap (λ v. vector_value p n m o v b) e)
 
   -- ---- at least one
   abbrev pub Normal : Vect X → Type 0
-  Normal u = (ts : List Term) × IsFalling p n m o ts × ((b : ℕ × Monomial n) → V p n m o ts b ≡ u b)
+  Normal u = (ts : List Term) × IsFalling p n m o ts × ((b : ℕ × Monomial n) → list_value p n m o ts b ≡ u b)
 
-  above_first : (t : Term) (f : Fits p n m o t) (ts : List Term) → IsFalling p n m o ts → ((b : ℕ × Monomial n) → ¬ (X.Less b (place_of p n m o t f)) → V p n m o ts b ≡ (gf p).zero) → IsAboveFirst o t ts
+  above_first : (t : Term) (f : Fits p n m o t) (ts : List Term) → IsFalling p n m o ts → ((b : ℕ × Monomial n) → ¬ (X.Less b (place_of p n m o t f)) → list_value p n m o ts b ≡ (gf p).zero) → IsAboveFirst o t ts
   above_first t f [] g z = tt
   above_first t f (s ∷ ss) g z =
       let fs = fits_of p n m o s g.0 in
       cmp_of_less o n m s.component t.component (head_place p n m o (s ∷ ss) g).1 (place_of p n m o t f).1 fs.within f.within
-      (place_in X (below_segment X (place_of p n m o t f)) (V p n m o (s ∷ ss)) z (head_place p n m o (s ∷ ss) g) (head_of_terms p n m o s ss g).0)
+      (place_in X (below_segment X (place_of p n m o t f)) (list_value p n m o (s ∷ ss)) z (head_place p n m o (s ∷ ss) g) (head_of_terms p n m o s ss g).0)
 
   module _ (u : Vect X) (outside : (b : ℕ × Monomial n) → ¬ (b.0 < m) → u b ≡ (gf p).zero) (finite : IsFinite X u) (a : ℕ × Monomial n) (hd : setting.IsHead X u a) where
     inside : a.0 < m
@@ -92,19 +92,19 @@ module _ (p : Prime) (n m : ℕ) (o : Order) where
 
     -- u without its first term
     remaining : Vect X
-    remaining b = (gf p).add ((gf p).mul ((gf p).neg (gf p).one) (V p n m o (first_term ∷ []) b)) (u b)
+    remaining b = (gf p).add ((gf p).mul ((gf p).neg (gf p).one) (list_value p n m o (first_term ∷ []) b)) (u b)
 
     remaining_outside : (b : ℕ × Monomial n) → ¬ (b.0 < m) → remaining b ≡ (gf p).zero
     unfolding remaining
-    remaining_outside b w = skip_zero (gf_laws p) ((gf p).neg (gf p).one) (V p n m o (first_term ∷ []) b) (u b) (val_outside p n m o (vector_of p n m (first_term ∷ [])) b w) ∙ outside b w
+    remaining_outside b w = skip_zero (gf_laws p) ((gf p).neg (gf p).one) (list_value p n m o (first_term ∷ []) b) (u b) (val_outside p n m o (vector_of p n m (first_term ∷ [])) b w) ∙ outside b w
 
     elsewhere : (b : ℕ × Monomial n) → ¬ (b ≡ a) → remaining b ≡ u b
     unfolding remaining
-    elsewhere b w = skip_zero (gf_laws p) ((gf p).neg (gf p).one) (V p n m o (first_term ∷ []) b) (u b) (val_other p n m o first_term term_fits b (λ e. w (e ∙ term_place)))
+    elsewhere b w = skip_zero (gf_laws p) ((gf p).neg (gf p).one) (list_value p n m o (first_term ∷ []) b) (u b) (val_other p n m o first_term term_fits b (λ e. w (e ∙ term_place)))
 
     remaining_at : remaining a ≡ (gf p).zero
     unfolding remaining
-    remaining_at = ap (λ x. (gf p).add ((gf p).mul ((gf p).neg (gf p).one) x) (u a)) (ap (V p n m o (first_term ∷ [])) (sym term_place) ∙ val_at p n m o first_term term_fits ∙ same_residue (number p n m o (u a).number) (u a) (mod-eq_of_lt (u a).below))
+    remaining_at = ap (λ x. (gf p).add ((gf p).mul ((gf p).neg (gf p).one) x) (u a)) (ap (list_value p n m o (first_term ∷ [])) (sym term_place) ∙ val_at p n m o first_term term_fits ∙ same_residue (number p n m o (u a).number) (u a) (mod-eq_of_lt (u a).below))
         ∙ diff_self (gf_laws p) (u a)
 
     remaining_finite : IsFinite X remaining
@@ -135,7 +135,7 @@ module _ (p : Prime) (n m : ℕ) (o : Order) where
     with_first (ts, f, e) = (
       first_term ∷ ts,
       (is_term, above_first first_term term_fits ts f (λ b w. e b ∙ remaining_above b (λ l. w (subst (X.Less b) (sym term_place) l))), f),
-      λ b. val_cons p n m o first_term ts b ∙ ap ((gf p).add (V p n m o (first_term ∷ []) b)) (e b) ∙ sym (sum_back (gf_laws p) (V p n m o (first_term ∷ []) b) (u b)),
+      λ b. val_cons p n m o first_term ts b ∙ ap ((gf p).add (list_value p n m o (first_term ∷ []) b)) (e b) ∙ sym (sum_back (gf_laws p) (list_value p n m o (first_term ∷ []) b) (u b)),
     )
 
   nil_normal : (u : Vect X) → IsNil X u → Normal u
@@ -156,7 +156,7 @@ module _ (p : Prime) (n m : ℕ) (o : Order) where
   -- each vector of polynomials is that of a falling list
   pub terms_of_vector : (v : List (Polynomial p n)) → length v ≡ m → (ts : List Term) × IsFalling p n m o ts × (vector_of p n m ts ≡ v)
   terms_of_vector v l =
-      let ts = normal_of (val p n m o v) (λ b w. val_outside p n m o v b w) (value_finite (ordered o n) (gf p) (gf_laws p) (gf_is_zero p) m v) in
+      let ts = normal_of (vector_value p n m o v) (λ b w. val_outside p n m o v b w) (value_finite (ordered o n) (gf p) (gf_laws p) (gf_is_zero p) m v) in
       (ts.0, ts.1, same_vector (ordered o n) (gf p) (gf_laws p) (gf_is_zero p) m (vector_of p n m ts.0) v (length_vector p n m ts.0) l ts.2)
 
   -- the head of a falling list is its first term

@@ -20,8 +20,8 @@ use Rattle.fm_groebner.proofs.Places.{same_place}
 use Rattle.fm_groebner.proofs.Ordered.{ordered}
 use Rattle.fm_groebner.proofs.Values.{value_finite, same_vector}
 use Rattle.fm_groebner.proofs.Numbers.{contains_cases}
-use Rattle.fm_groebner.proofs.TermValues.{number, fits_of, all_fit, val_outside, val_append, val_multiple, val_head, head_of_terms, number_times, number_nonzero}
-use Rattle.fm_groebner.proofs.MonicLists.{T, V, head_place}
+use Rattle.fm_groebner.proofs.TermValues.{space, list_value, number, fits_of, all_fit, val_outside, val_append, val_multiple, val_head, head_of_terms, number_times, number_nonzero}
+use Rattle.fm_groebner.proofs.MonicLists.{head_place}
 use Rattle.fm_groebner.proofs.Bases.{inverse_of}
 use Rattle.fm_groebner.proofs.NormalForms.{normal_of}
 
@@ -53,37 +53,37 @@ find_divisor (x ∷ ms) s = by_first x (find_divisor ms s)
 
 module _ (p : Prime) (n m : ℕ) (o : Order) where
   abbrev X : setting.Setting
-  X = T p n m o
+  X = space p n m o
 
-  finite_list : (x : List Term) → IsFinite X (V p n m o x)
+  finite_list : (x : List Term) → IsFinite X (list_value p n m o x)
   finite_list x = value_finite (ordered o n) (gf p) (gf_laws p) (gf_is_zero p) m (vector_of p n m x)
 
   combination_finite : (c : (gf p).Carrier) (u w : Vect X) → IsFinite X u → IsFinite X w → IsFinite X (λ b. (gf p).add ((gf p).mul c (u b)) (w b))
   combination_finite c u w f g = finite_of_lin X {A = λ v. IsFinite X v} (λ v h. h) (lin_comb c (lin_gen f) (lin_gen g) (λ b. refl))
 
-  shift_outside : (a : Monomial n) (x : List Term) (b : ℕ × Monomial n) → ¬ (b.0 < m) → shift X a (V p n m o x) b ≡ (gf p).zero
+  shift_outside : (a : Monomial n) (x : List Term) (b : ℕ × Monomial n) → ¬ (b.0 < m) → shift X a (list_value p n m o x) b ≡ (gf p).zero
   shift_outside a x b w = elim (shift_view X a b) [
-    | inl q ↦ q.2 (V p n m o x) ∙ val_outside p n m o (vector_of p n m x) q.0 (λ l. w (subst (λ z. z.0 < m) q.1 l))
-    | inr q ↦ q.1 (V p n m o x)
+    | inl q ↦ q.2 (list_value p n m o x) ∙ val_outside p n m o (vector_of p n m x) q.0 (λ l. w (subst (λ z. z.0 < m) q.1 l))
+    | inr q ↦ q.1 (list_value p n m o x)
   ]
 
   -- the falling list of a list minus a multiple of another
   difference_list : (w g : List Term) (c : ℕ) (a : Monomial n) → IsFalling p n m o g
-      → (v : List Term) × IsFalling p n m o v × ((b : ℕ × Monomial n) → V p n m o v b ≡ (gf p).add ((gf p).mul ((gf p).neg (number p n m o c)) (shift X a (V p n m o g) b)) (V p n m o w b))
-  difference_list w g c a f = normal_of p n m o (λ b. (gf p).add ((gf p).mul ((gf p).neg (number p n m o c)) (shift X a (V p n m o g) b)) (V p n m o w b))
-      (λ b out. skip_zero (gf_laws p) ((gf p).neg (number p n m o c)) (shift X a (V p n m o g) b) (V p n m o w b) (shift_outside a g b out) ∙ val_outside p n m o (vector_of p n m w) b out)
-      (combination_finite ((gf p).neg (number p n m o c)) (shift X a (V p n m o g)) (V p n m o w) (finite_shift X a (finite_list g)) (finite_list w))
+      → (v : List Term) × IsFalling p n m o v × ((b : ℕ × Monomial n) → list_value p n m o v b ≡ (gf p).add ((gf p).mul ((gf p).neg (number p n m o c)) (shift X a (list_value p n m o g) b)) (list_value p n m o w b))
+  difference_list w g c a f = normal_of p n m o (λ b. (gf p).add ((gf p).mul ((gf p).neg (number p n m o c)) (shift X a (list_value p n m o g) b)) (list_value p n m o w b))
+      (λ b out. skip_zero (gf_laws p) ((gf p).neg (number p n m o c)) (shift X a (list_value p n m o g) b) (list_value p n m o w b) (shift_outside a g b out) ∙ val_outside p n m o (vector_of p n m w) b out)
+      (combination_finite ((gf p).neg (number p n m o c)) (shift X a (list_value p n m o g)) (list_value p n m o w) (finite_shift X a (finite_list g)) (finite_list w))
 
   put_back : (y z : (gf p).Carrier) → (gf p).add ((gf p).add ((gf p).neg y) z) y ≡ z
   put_back y z = (gf_laws p).add_comm ((gf p).add ((gf p).neg y) z) y ∙ sym ((gf_laws p).add_assoc y ((gf p).neg y) z) ∙ ap (λ x. (gf p).add x z) (add_neg (gf_laws p) y) ∙ (gf_laws p).zero_add z
 
-  vector_back : (v w g : List Term) (c : ℕ) (a : Monomial n) → IsFalling p n m o g → ((b : ℕ × Monomial n) → V p n m o v b ≡ (gf p).add ((gf p).mul ((gf p).neg (number p n m o c)) (shift X a (V p n m o g) b)) (V p n m o w b))
+  vector_back : (v w g : List Term) (c : ℕ) (a : Monomial n) → IsFalling p n m o g → ((b : ℕ × Monomial n) → list_value p n m o v b ≡ (gf p).add ((gf p).mul ((gf p).neg (number p n m o c)) (shift X a (list_value p n m o g) b)) (list_value p n m o w b))
       → vector_of p n m (v ++ multiple_terms p c a.exponents g) ≡ vector_of p n m w
   vector_back v w g c a f e = same_vector (ordered o n) (gf p) (gf_laws p) (gf_is_zero p) m (vector_of p n m (v ++ multiple_terms p c a.exponents g)) (vector_of p n m w)
       (length_vector p n m (v ++ multiple_terms p c a.exponents g)) (length_vector p n m w)
       (λ b. val_append p n m o v (multiple_terms p c a.exponents g) b
-      ∙ ap₂ (gf p).add (e b ∙ ap (λ x. (gf p).add x (V p n m o w b)) (neg_mul (gf_laws p) (number p n m o c) (shift X a (V p n m o g) b))) (val_multiple p n m o c a g (all_fit p n m o g f) b)
-      ∙ put_back ((gf p).mul (number p n m o c) (shift X a (V p n m o g) b)) (V p n m o w b))
+      ∙ ap₂ (gf p).add (e b ∙ ap (λ x. (gf p).add x (list_value p n m o w b)) (neg_mul (gf_laws p) (number p n m o c) (shift X a (list_value p n m o g) b))) (val_multiple p n m o c a g (all_fit p n m o g f) b)
+      ∙ put_back ((gf p).mul (number p n m o c) (shift X a (list_value p n m o g) b)) (list_value p n m o w b))
 
   -- the factor that cancels a head
   cancels : (c d : ℕ) → 0 < d → d < prime_value p → c < prime_value p → (f : ℕ) × ((f * d) % prime_value p ≡ c)
@@ -108,7 +108,7 @@ module _ (p : Prime) (n m : ℕ) (o : Order) where
 
     -- one step: the head is cancelled
     one_step : (s : Term) (vs : List Term) (f : IsFalling p n m o (s ∷ vs)) (k : ℕ) (t : Term) (ts : List Term) → IsNumber ms k (t ∷ ts) → TermDivides t s
-        → ((v : List Term) (g : IsFalling p n m o v) → ((b : ℕ × Monomial n) → ¬ (X.Less b (head_place p n m o (s ∷ vs) f)) → V p n m o v b ≡ (gf p).zero) → Reduced v) → Reduced (s ∷ vs)
+        → ((v : List Term) (g : IsFalling p n m o v) → ((b : ℕ × Monomial n) → ¬ (X.Less b (head_place p n m o (s ∷ vs) f)) → list_value p n m o v b ≡ (gf p).zero) → Reduced v) → Reduced (s ∷ vs)
     unfolding Reduced
     one_step s vs f k t ts i d rest =
         let w = falling k (t ∷ ts) i in
@@ -124,28 +124,28 @@ module _ (p : Prime) (n m : ℕ) (o : Order) where
         (k ∷ r.0, r.1, one_more c.0 i d c.1 v.1 (vector_back v.0 (s ∷ vs) (t ∷ ts) c.0 a w v.2) r.2, r.3)
       where
         below_head : (a : Monomial n) (c : ℕ) → (c * t.coefficient) % prime_value p ≡ s.coefficient → (w : IsFalling p n m o (t ∷ ts)) (v : List Term)
-            → ((b : ℕ × Monomial n) → V p n m o v b ≡ (gf p).add ((gf p).mul ((gf p).neg (number p n m o c)) (shift X a (V p n m o (t ∷ ts)) b)) (V p n m o (s ∷ vs) b))
+            → ((b : ℕ × Monomial n) → list_value p n m o v b ≡ (gf p).add ((gf p).mul ((gf p).neg (number p n m o c)) (shift X a (list_value p n m o (t ∷ ts)) b)) (list_value p n m o (s ∷ vs) b))
             → X.◌•◌ a (head_place p n m o (t ∷ ts) w) ≡ head_place p n m o (s ∷ vs) f
-            → (b : ℕ × Monomial n) → ¬ (X.Less b (head_place p n m o (s ∷ vs) f)) → V p n m o v b ≡ (gf p).zero
+            → (b : ℕ × Monomial n) → ¬ (X.Less b (head_place p n m o (s ∷ vs) f)) → list_value p n m o v b ≡ (gf p).zero
         below_head a c q w v e meets b out = e b ∙ elim (X.compared b (head_place p n m o (s ∷ vs) f)) [
           | setting.below l ↦ absurd (out l)
           | setting.same z ↦ ap₂ (λ x y. (gf p).add ((gf p).mul ((gf p).neg (number p n m o c)) x) y)
-              (ap (shift X a (V p n m o (t ∷ ts))) (z ∙ sym meets) ∙ shift_at X a (V p n m o (t ∷ ts)) (head_place p n m o (t ∷ ts) w) ∙ val_head p n m o t ts w)
-              (ap (V p n m o (s ∷ vs)) z ∙ val_head p n m o s vs f ∙ sym (ap (number p n m o) q) ∙ number_times p n m o c t.coefficient)
+              (ap (shift X a (list_value p n m o (t ∷ ts))) (z ∙ sym meets) ∙ shift_at X a (list_value p n m o (t ∷ ts)) (head_place p n m o (t ∷ ts) w) ∙ val_head p n m o t ts w)
+              (ap (list_value p n m o (s ∷ vs)) z ∙ val_head p n m o s vs f ∙ sym (ap (number p n m o) q) ∙ number_times p n m o c t.coefficient)
               ∙ ap (λ x. (gf p).add x ((gf p).mul (number p n m o c) (number p n m o t.coefficient))) (neg_mul (gf_laws p) (number p n m o c) (number p n m o t.coefficient))
               ∙ (gf_laws p).neg_add ((gf p).mul (number p n m o c) (number p n m o t.coefficient))
-          | setting.above l ↦ skip_zero (gf_laws p) ((gf p).neg (number p n m o c)) (shift X a (V p n m o (t ∷ ts)) b) (V p n m o (s ∷ vs) b) (multiple_zero a w b (subst (λ z. X.Less z b) (sym meets) l))
+          | setting.above l ↦ skip_zero (gf_laws p) ((gf p).neg (number p n m o c)) (shift X a (list_value p n m o (t ∷ ts)) b) (list_value p n m o (s ∷ vs) b) (multiple_zero a w b (subst (λ z. X.Less z b) (sym meets) l))
               ∙ (head_of_terms p n m o s vs f).1 b l
         ]
           where
-            multiple_zero : (a : Monomial n) (w : IsFalling p n m o (t ∷ ts)) (b : ℕ × Monomial n) → X.Less (X.◌•◌ a (head_place p n m o (t ∷ ts) w)) b → shift X a (V p n m o (t ∷ ts)) b ≡ (gf p).zero
+            multiple_zero : (a : Monomial n) (w : IsFalling p n m o (t ∷ ts)) (b : ℕ × Monomial n) → X.Less (X.◌•◌ a (head_place p n m o (t ∷ ts) w)) b → shift X a (list_value p n m o (t ∷ ts)) b ≡ (gf p).zero
             multiple_zero a w b l = elim (shift_view X a b) [
-              | inl q ↦ q.2 (V p n m o (t ∷ ts)) ∙ (head_of_terms p n m o t ts w).1 q.0 (less_of_at X a (head_place p n m o (t ∷ ts) w) q.0 (subst (X.Less (X.◌•◌ a (head_place p n m o (t ∷ ts) w))) (sym q.1) l))
-              | inr q ↦ q.1 (V p n m o (t ∷ ts))
+              | inl q ↦ q.2 (list_value p n m o (t ∷ ts)) ∙ (head_of_terms p n m o t ts w).1 q.0 (less_of_at X a (head_place p n m o (t ∷ ts) w) q.0 (subst (X.Less (X.◌•◌ a (head_place p n m o (t ∷ ts) w))) (sym q.1) l))
+              | inr q ↦ q.1 (list_value p n m o (t ∷ ts))
             ]
 
     step_or_stop : (s : Term) (vs : List Term) (f : IsFalling p n m o (s ∷ vs))
-        → ((v : List Term) (g : IsFalling p n m o v) → ((b : ℕ × Monomial n) → ¬ (X.Less b (head_place p n m o (s ∷ vs) f)) → V p n m o v b ≡ (gf p).zero) → Reduced v) → Reduced (s ∷ vs)
+        → ((v : List Term) (g : IsFalling p n m o v) → ((b : ℕ × Monomial n) → ¬ (X.Less b (head_place p n m o (s ∷ vs) f)) → list_value p n m o v b ≡ (gf p).zero) → Reduced v) → Reduced (s ∷ vs)
     unfolding Reduced
     step_or_stop s vs f rest = elim (find_divisor ms s) [
       | inl d ↦ one_step s vs f d.0 d.1 d.2 d.3 d.4 rest
@@ -153,10 +153,10 @@ module _ (p : Prime) (n m : ℕ) (o : Order) where
     ]
 
     from_smaller : (a : ℕ × Monomial n) → ((b : ℕ × Monomial n) → X.Less b a → (s : Term) (vs : List Term) (f : IsFalling p n m o (s ∷ vs)) → head_place p n m o (s ∷ vs) f ≡ b → Reduced (s ∷ vs))
-        → (v : List Term) (g : IsFalling p n m o v) → ((b : ℕ × Monomial n) → ¬ (X.Less b a) → V p n m o v b ≡ (gf p).zero) → Reduced v
+        → (v : List Term) (g : IsFalling p n m o v) → ((b : ℕ × Monomial n) → ¬ (X.Less b a) → list_value p n m o v b ≡ (gf p).zero) → Reduced v
     unfolding Reduced
     from_smaller a smaller [] g z = ([], [], no_more, tt)
-    from_smaller a smaller (s ∷ vs) g z = smaller (head_place p n m o (s ∷ vs) g) (place_in X (below_segment X a) (V p n m o (s ∷ vs)) z (head_place p n m o (s ∷ vs) g) (head_of_terms p n m o s vs g).0) s vs g refl
+    from_smaller a smaller (s ∷ vs) g z = smaller (head_place p n m o (s ∷ vs) g) (place_in X (below_segment X a) (list_value p n m o (s ∷ vs)) z (head_place p n m o (s ∷ vs) g) (head_of_terms p n m o s vs g).0) s vs g refl
 
     reduced_at : (a : ℕ × Monomial n) → Acc X.Less a → (s : Term) (vs : List Term) (f : IsFalling p n m o (s ∷ vs)) → head_place p n m o (s ∷ vs) f ≡ a → Reduced (s ∷ vs)
     reduced_at a (Acc.intro a' smaller) = λ s vs f e. step_or_stop s vs f (from_smaller (head_place p n m o (s ∷ vs) f) (λ b l. reduced_at b (smaller b (subst (X.Less b) e l))))

@@ -31,15 +31,15 @@ module _ (p : Prime) (n m : ℕ) (o : Order) where
   abbrev pub K : Ring
   K = gf p
 
-  abbrev pub S : Setting
-  S = places (ordered o n) (gf p) (gf_laws p) (gf_is_zero p)
+  abbrev pub space : Setting
+  space = places (ordered o n) (gf p) (gf_laws p) (gf_is_zero p)
 
   -- the vector of a list of polynomials, and of a list of terms, as a function
-  abbrev pub val : List (Polynomial p n) → Vect S
-  val v = value (ordered o n) (gf p) (gf_laws p) (gf_is_zero p) m v
+  abbrev pub vector_value : List (Polynomial p n) → Vect space
+  vector_value v = value (ordered o n) (gf p) (gf_laws p) (gf_is_zero p) m v
 
-  abbrev pub terms_val : List Term → Vect S
-  terms_val ts = val (vector_of p n m ts)
+  abbrev pub list_value : List Term → Vect space
+  list_value ts = vector_value (vector_of p n m ts)
 
   -- a number as an element of the field
   abbrev pub number : ℕ → K.Carrier
@@ -103,7 +103,7 @@ module _ (p : Prime) (n m : ℕ) (o : Order) where
   poly_none i t a w = ap (λ x. coeff (polynomial_of p n (cond x ((t.exponents, t.coefficient) ∷ []) [])) a) (ne_eqb t.component i w) ∙ coeff_nil a
 
   -- ---- values
-  pub val_inside : (ts : List Term) (b : ℕ × Monomial n) → b.0 < m → terms_val ts b ≡ coeff (poly_in (m - b.0) ts) b.1.exponents
+  pub val_inside : (ts : List Term) (b : ℕ × Monomial n) → b.0 < m → list_value ts b ≡ coeff (poly_in (m - b.0) ts) b.1.exponents
   unfolding vector_of component
   val_inside ts b l = value_is (ordered o n) (gf p) (gf_laws p) (gf_is_zero p) m (vector_of p n m ts) b
       ∙ ap (λ f. coeff f b.1.exponents) (component_inside (ordered o n) (gf p) (gf_laws p) (gf_is_zero p) m b.0 (vector_of p n m ts) l
@@ -116,29 +116,29 @@ module _ (p : Prime) (n m : ℕ) (o : Order) where
       index : suc (m - suc b.0) ≡ m - b.0
       index = omega arith
 
-  pub val_outside : (v : List (Polynomial p n)) (b : ℕ × Monomial n) → ¬ (b.0 < m) → val v b ≡ K.zero
+  pub val_outside : (v : List (Polynomial p n)) (b : ℕ × Monomial n) → ¬ (b.0 < m) → vector_value v b ≡ K.zero
   val_outside v b w = value_outside (ordered o n) (gf p) (gf_laws p) (gf_is_zero p) m v b w
 
-  pub val_cons : (t : Term) (ts : List Term) (b : ℕ × Monomial n) → terms_val (t ∷ ts) b ≡ K.add (terms_val (t ∷ []) b) (terms_val ts b)
+  pub val_cons : (t : Term) (ts : List Term) (b : ℕ × Monomial n) → list_value (t ∷ ts) b ≡ K.add (list_value (t ∷ []) b) (list_value ts b)
   val_cons t ts b = elim (dec_lt b.0 m) [
     | yes l ↦ val_inside (t ∷ ts) b l ∙ poly_cons (m - b.0) t ts b.1.exponents ∙ sym (ap₂ K.add (val_inside (t ∷ []) b l) (val_inside ts b l))
     | no w ↦ val_outside (vector_of p n m (t ∷ ts)) b w ∙ sym (ap₂ K.add (val_outside (vector_of p n m (t ∷ [])) b w) (val_outside (vector_of p n m ts) b w) ∙ (gf_laws p).zero_add K.zero)
   ]
 
-  pub val_nil : (b : ℕ × Monomial n) → terms_val [] b ≡ K.zero
+  pub val_nil : (b : ℕ × Monomial n) → list_value [] b ≡ K.zero
   unfolding terms_in polynomial_of
   val_nil b = elim (dec_lt b.0 m) [
     | yes l ↦ val_inside [] b l ∙ coeff_nil b.1.exponents
     | no w ↦ val_outside (vector_of p n m []) b w
   ]
 
-  pub val_append : (ts us : List Term) (b : ℕ × Monomial n) → terms_val (ts ++ us) b ≡ K.add (terms_val ts b) (terms_val us b)
-  val_append [] us b = sym (ap (λ x. K.add x (terms_val us b)) (val_nil b) ∙ (gf_laws p).zero_add (terms_val us b))
-  val_append (t ∷ ts) us b = val_cons t (ts ++ us) b ∙ ap (K.add (terms_val (t ∷ []) b)) (val_append ts us b)
-      ∙ sym ((gf_laws p).add_assoc (terms_val (t ∷ []) b) (terms_val ts b) (terms_val us b)) ∙ ap (λ x. K.add x (terms_val us b)) (sym (val_cons t ts b))
+  pub val_append : (ts us : List Term) (b : ℕ × Monomial n) → list_value (ts ++ us) b ≡ K.add (list_value ts b) (list_value us b)
+  val_append [] us b = sym (ap (λ x. K.add x (list_value us b)) (val_nil b) ∙ (gf_laws p).zero_add (list_value us b))
+  val_append (t ∷ ts) us b = val_cons t (ts ++ us) b ∙ ap (K.add (list_value (t ∷ []) b)) (val_append ts us b)
+      ∙ sym ((gf_laws p).add_assoc (list_value (t ∷ []) b) (list_value ts b) (list_value us b)) ∙ ap (λ x. K.add x (list_value us b)) (sym (val_cons t ts b))
 
   -- a term has its coefficient at its place, and zero elsewhere
-  pub val_at : (t : Term) (f : Fits t) → terms_val (t ∷ []) (place_of t f) ≡ number t.coefficient
+  pub val_at : (t : Term) (f : Fits t) → list_value (t ∷ []) (place_of t f) ≡ number t.coefficient
   val_at t f = val_inside (t ∷ []) (place_of t f) inside ∙ poly_one (m - (m - t.component)) t t.exponents f.exponents back ∙ single_same (gf p) (number t.coefficient) t.exponents
     where
       inside : m - t.component < m
@@ -147,7 +147,7 @@ module _ (p : Prime) (n m : ℕ) (o : Order) where
       back : t.component ≡ m - (m - t.component)
       back = omega (arith, f.within)
 
-  pub val_other : (t : Term) (f : Fits t) (b : ℕ × Monomial n) → ¬ (b ≡ place_of t f) → terms_val (t ∷ []) b ≡ K.zero
+  pub val_other : (t : Term) (f : Fits t) (b : ℕ × Monomial n) → ¬ (b ≡ place_of t f) → list_value (t ∷ []) b ≡ K.zero
   val_other t f b w = elim (dec_lt b.0 m) [
     | yes l ↦ val_inside (t ∷ []) b l ∙ elim (ℕ_discrete t.component (m - b.0)) [
       | yes e ↦ poly_one (m - b.0) t b.1.exponents b.1.fits e
@@ -170,77 +170,77 @@ module _ (p : Prime) (n m : ℕ) (o : Order) where
 
   -- is a place that of a term
   at_place : (t : Term) (f : Fits t) (b : ℕ × Monomial n) → (b ≡ place_of t f) ⊎ ¬ (b ≡ place_of t f)
-  at_place t f b = elim (S.compared b (place_of t f)) [
-    | below l ↦ inr (λ e. not_less_of_same S e l)
+  at_place t f b = elim (space.compared b (place_of t f)) [
+    | below l ↦ inr (λ e. not_less_of_same space e l)
     | same e ↦ inl e
-    | above l ↦ inr (λ e. not_less_of_same S (sym e) l)
+    | above l ↦ inr (λ e. not_less_of_same space (sym e) l)
   ]
 
   abbrev pub fits_multiple : (c : ℕ) (a : Monomial n) (t : Term) → Fits t → Fits (multiple_term p c a.exponents t)
   fits_multiple c a t f = record { positive = f.positive; within = f.within; exponents = (a · record { exponents = t.exponents; fits = f.exponents }).fits }
 
   term_multiple : (c : ℕ) (a : Monomial n) (t : Term) → Fits t → (b : ℕ × Monomial n)
-      → terms_val (multiple_term p c a.exponents t ∷ []) b ≡ K.mul (number c) (shift S a (terms_val (t ∷ [])) b)
-  term_multiple c a t f b = elim (shift_view S a b) [
-    | inl q ↦ moved q.0 q.1 (at_place t f q.0) ∙ ap (K.mul (number c)) (sym (q.2 (terms_val (t ∷ []))))
+      → list_value (multiple_term p c a.exponents t ∷ []) b ≡ K.mul (number c) (shift space a (list_value (t ∷ [])) b)
+  term_multiple c a t f b = elim (shift_view space a b) [
+    | inl q ↦ moved q.0 q.1 (at_place t f q.0) ∙ ap (K.mul (number c)) (sym (q.2 (list_value (t ∷ []))))
     | inr q ↦ val_other (multiple_term p c a.exponents t) (fits_multiple c a t f) b (λ e. q.0 (place_of t f) (moved_place ∙ sym e))
-        ∙ sym (mul_zero (gf_laws p) (number c)) ∙ ap (K.mul (number c)) (sym (q.1 (terms_val (t ∷ []))))
+        ∙ sym (mul_zero (gf_laws p) (number c)) ∙ ap (K.mul (number c)) (sym (q.1 (list_value (t ∷ []))))
   ]
     where
       moved_place : ◌≡◌ {A = ℕ × Monomial n} (m - t.component, a · record { exponents = t.exponents; fits = f.exponents }) (place_of (multiple_term p c a.exponents t) (fits_multiple c a t f))
       moved_place = refl
 
-      moved : (x : ℕ × Monomial n) → S.◌•◌ a x ≡ b → (x ≡ place_of t f) ⊎ ¬ (x ≡ place_of t f) → terms_val (multiple_term p c a.exponents t ∷ []) b ≡ K.mul (number c) (terms_val (t ∷ []) x)
-      moved x e (inl q) = ap (terms_val (multiple_term p c a.exponents t ∷ [])) (sym e ∙ ap (S.◌•◌ a) q) ∙ val_at (multiple_term p c a.exponents t) (fits_multiple c a t f)
-          ∙ number_times c t.coefficient ∙ ap (K.mul (number c)) (sym (ap (terms_val (t ∷ [])) q ∙ val_at t f))
-      moved x e (inr w) = val_other (multiple_term p c a.exponents t) (fits_multiple c a t f) b (λ q. w (at_injective S a x (place_of t f) (e ∙ q)))
+      moved : (x : ℕ × Monomial n) → space.◌•◌ a x ≡ b → (x ≡ place_of t f) ⊎ ¬ (x ≡ place_of t f) → list_value (multiple_term p c a.exponents t ∷ []) b ≡ K.mul (number c) (list_value (t ∷ []) x)
+      moved x e (inl q) = ap (list_value (multiple_term p c a.exponents t ∷ [])) (sym e ∙ ap (space.◌•◌ a) q) ∙ val_at (multiple_term p c a.exponents t) (fits_multiple c a t f)
+          ∙ number_times c t.coefficient ∙ ap (K.mul (number c)) (sym (ap (list_value (t ∷ [])) q ∙ val_at t f))
+      moved x e (inr w) = val_other (multiple_term p c a.exponents t) (fits_multiple c a t f) b (λ q. w (at_injective space a x (place_of t f) (e ∙ q)))
           ∙ sym (ap (K.mul (number c)) (val_other t f x w) ∙ mul_zero (gf_laws p) (number c))
 
   shift_sum : (a : Monomial n) (t : Term) (ts : List Term) (b : ℕ × Monomial n)
-      → shift S a (terms_val (t ∷ ts)) b ≡ K.add (shift S a (terms_val (t ∷ [])) b) (shift S a (terms_val ts) b)
-  shift_sum a t ts b = (shift_linear S a).on_comb K.one (terms_val (t ∷ [])) (terms_val ts) (terms_val (t ∷ ts))
-      (λ c. val_cons t ts c ∙ ap (λ x. K.add x (terms_val ts c)) (sym ((gf_laws p).one_mul (terms_val (t ∷ []) c)))) b
-      ∙ ap (λ x. K.add x (shift S a (terms_val ts) b)) ((gf_laws p).one_mul (shift S a (terms_val (t ∷ [])) b))
+      → shift space a (list_value (t ∷ ts)) b ≡ K.add (shift space a (list_value (t ∷ [])) b) (shift space a (list_value ts) b)
+  shift_sum a t ts b = (shift_linear space a).on_comb K.one (list_value (t ∷ [])) (list_value ts) (list_value (t ∷ ts))
+      (λ c. val_cons t ts c ∙ ap (λ x. K.add x (list_value ts c)) (sym ((gf_laws p).one_mul (list_value (t ∷ []) c)))) b
+      ∙ ap (λ x. K.add x (shift space a (list_value ts) b)) ((gf_laws p).one_mul (shift space a (list_value (t ∷ [])) b))
 
   -- the vector of the terms of c * x^a times a vector
   pub val_multiple : (c : ℕ) (a : Monomial n) (ts : List Term) → AllFit ts → (b : ℕ × Monomial n)
-      → terms_val (multiple_terms p c a.exponents ts) b ≡ K.mul (number c) (shift S a (terms_val ts) b)
-  val_multiple c a [] f b = val_nil b ∙ sym (ap (K.mul (number c)) ((shift_linear S a).on_zero (terms_val []) val_nil b) ∙ mul_zero (gf_laws p) (number c))
+      → list_value (multiple_terms p c a.exponents ts) b ≡ K.mul (number c) (shift space a (list_value ts) b)
+  val_multiple c a [] f b = val_nil b ∙ sym (ap (K.mul (number c)) ((shift_linear space a).on_zero (list_value []) val_nil b) ∙ mul_zero (gf_laws p) (number c))
   val_multiple c a (t ∷ ts) f b = val_cons (multiple_term p c a.exponents t) (multiple_terms p c a.exponents ts) b
       ∙ ap₂ K.add (term_multiple c a t f.0 b) (val_multiple c a ts f.1 b)
-      ∙ sym (ap (K.mul (number c)) (shift_sum a t ts b) ∙ (gf_laws p).mul_add (number c) (shift S a (terms_val (t ∷ [])) b) (shift S a (terms_val ts) b))
+      ∙ sym (ap (K.mul (number c)) (shift_sum a t ts b) ∙ (gf_laws p).mul_add (number c) (shift space a (list_value (t ∷ [])) b) (shift space a (list_value ts) b))
 
   abbrev pub fits_scaled : (c : ℕ) (t : Term) → Fits t → Fits (scaled_term p c t)
   fits_scaled c t f = record { positive = f.positive; within = f.within; exponents = f.exponents }
 
-  term_scaled : (c : ℕ) (t : Term) → Fits t → (b : ℕ × Monomial n) → terms_val (scaled_term p c t ∷ []) b ≡ K.mul (number c) (terms_val (t ∷ []) b)
+  term_scaled : (c : ℕ) (t : Term) → Fits t → (b : ℕ × Monomial n) → list_value (scaled_term p c t ∷ []) b ≡ K.mul (number c) (list_value (t ∷ []) b)
   term_scaled c t f b = elim (at_place t f b) [
-    | inl e ↦ ap (terms_val (scaled_term p c t ∷ [])) e ∙ val_at (scaled_term p c t) (fits_scaled c t f) ∙ number_times c t.coefficient
-        ∙ ap (K.mul (number c)) (sym (ap (terms_val (t ∷ [])) e ∙ val_at t f))
+    | inl e ↦ ap (list_value (scaled_term p c t ∷ [])) e ∙ val_at (scaled_term p c t) (fits_scaled c t f) ∙ number_times c t.coefficient
+        ∙ ap (K.mul (number c)) (sym (ap (list_value (t ∷ [])) e ∙ val_at t f))
     | inr w ↦ val_other (scaled_term p c t) (fits_scaled c t f) b w ∙ sym (ap (K.mul (number c)) (val_other t f b w) ∙ mul_zero (gf_laws p) (number c))
   ]
 
   -- the vector of the terms of c times a vector
-  pub val_scaled : (c : ℕ) (ts : List Term) → AllFit ts → (b : ℕ × Monomial n) → terms_val (scaled_terms p c ts) b ≡ K.mul (number c) (terms_val ts b)
+  pub val_scaled : (c : ℕ) (ts : List Term) → AllFit ts → (b : ℕ × Monomial n) → list_value (scaled_terms p c ts) b ≡ K.mul (number c) (list_value ts b)
   val_scaled c [] f b = val_nil b ∙ sym (ap (K.mul (number c)) (val_nil b) ∙ mul_zero (gf_laws p) (number c))
   val_scaled c (t ∷ ts) f b = val_cons (scaled_term p c t) (scaled_terms p c ts) b ∙ ap₂ K.add (term_scaled c t f.0 b) (val_scaled c ts f.1 b)
-      ∙ sym (ap (K.mul (number c)) (val_cons t ts b) ∙ (gf_laws p).mul_add (number c) (terms_val (t ∷ []) b) (terms_val ts b))
+      ∙ sym (ap (K.mul (number c)) (val_cons t ts b) ∙ (gf_laws p).mul_add (number c) (list_value (t ∷ []) b) (list_value ts b))
 
   -- ---- heads
   -- a falling list is zero from its head on
-  pub val_above : (t : Term) (f : Fits t) (ts : List Term) → IsAboveFirst o t ts → IsFalling p n m o ts → (b : ℕ × Monomial n) → ¬ (S.Less b (place_of t f)) → terms_val ts b ≡ K.zero
+  pub val_above : (t : Term) (f : Fits t) (ts : List Term) → IsAboveFirst o t ts → IsFalling p n m o ts → (b : ℕ × Monomial n) → ¬ (space.Less b (place_of t f)) → list_value ts b ≡ K.zero
   val_above t f [] a g b w = val_nil b
   val_above t f (s ∷ ss) a g b w =
       let fs = fits_of s g.0 in
-      let less : S.Less (place_of s fs) (place_of t f) = less_of_cmp o n m s.component t.component (record { exponents = s.exponents; fits = fs.exponents }) (record { exponents = t.exponents; fits = f.exponents }) fs.within a in
+      let less : space.Less (place_of s fs) (place_of t f) = less_of_cmp o n m s.component t.component (record { exponents = s.exponents; fits = fs.exponents }) (record { exponents = t.exponents; fits = f.exponents }) fs.within a in
       val_cons s ss b
-      ∙ ap₂ K.add (val_other s fs b (λ e. w (subst (λ x. S.Less x (place_of t f)) (sym e) less)))
-      (val_above s fs ss g.1 g.2 b (λ l. w (S.less_trans {a = b} {b = place_of s fs} {c = place_of t f} l less)))
+      ∙ ap₂ K.add (val_other s fs b (λ e. w (subst (λ x. space.Less x (place_of t f)) (sym e) less)))
+      (val_above s fs ss g.1 g.2 b (λ l. w (space.less_trans {a = b} {b = place_of s fs} {c = place_of t f} l less)))
       ∙ (gf_laws p).zero_add K.zero
 
-  pub val_head : (t : Term) (ts : List Term) (g : IsFalling p n m o (t ∷ ts)) → terms_val (t ∷ ts) (place_of t (fits_of t g.0)) ≡ number t.coefficient
+  pub val_head : (t : Term) (ts : List Term) (g : IsFalling p n m o (t ∷ ts)) → list_value (t ∷ ts) (place_of t (fits_of t g.0)) ≡ number t.coefficient
   val_head t ts g = val_cons t ts (place_of t (fits_of t g.0))
-      ∙ ap₂ K.add (val_at t (fits_of t g.0)) (val_above t (fits_of t g.0) ts g.1 g.2 (place_of t (fits_of t g.0)) (less_irrefl S (place_of t (fits_of t g.0))))
+      ∙ ap₂ K.add (val_at t (fits_of t g.0)) (val_above t (fits_of t g.0) ts g.1 g.2 (place_of t (fits_of t g.0)) (less_irrefl space (place_of t (fits_of t g.0))))
       ∙ add_zero (gf_laws p) (number t.coefficient)
 
   pub number_nonzero : (c : ℕ) → 0 < c → c < prime_value p → ¬ (number c ≡ K.zero)
@@ -250,16 +250,16 @@ module _ (p : Prime) (n m : ℕ) (o : Order) where
       absurd (omega (arith, pos))
 
   -- the head of a falling list is its first term
-  pub head_of_terms : (t : Term) (ts : List Term) (g : IsFalling p n m o (t ∷ ts)) → IsHead S (terms_val (t ∷ ts)) (place_of t (fits_of t g.0))
+  pub head_of_terms : (t : Term) (ts : List Term) (g : IsFalling p n m o (t ∷ ts)) → IsHead space (list_value (t ∷ ts)) (place_of t (fits_of t g.0))
   head_of_terms t ts g = (
     (λ e. number_nonzero t.coefficient g.0.3 g.0.4 (sym (val_head t ts g) ∙ e)),
     λ b l.
         val_cons t ts b
-        ∙ ap₂ K.add (val_other t (fits_of t g.0) b (λ e. not_less_of_same S (sym e) l)) (val_above t (fits_of t g.0) ts g.1 g.2 b (λ k. less_irrefl S b (S.less_trans {a = b} {b = place_of t (fits_of t g.0)} {c = b} k l)))
+        ∙ ap₂ K.add (val_other t (fits_of t g.0) b (λ e. not_less_of_same space (sym e) l)) (val_above t (fits_of t g.0) ts g.1 g.2 b (λ k. less_irrefl space b (space.less_trans {a = b} {b = place_of t (fits_of t g.0)} {c = b} k l)))
         ∙ (gf_laws p).zero_add K.zero,
   )
 
   -- a falling list whose vector is zero is empty
-  pub empty_of_nil : (ts : List Term) → IsFalling p n m o ts → IsNil S (terms_val ts) → ts ≡ []
+  pub empty_of_nil : (ts : List Term) → IsFalling p n m o ts → IsNil space (list_value ts) → ts ≡ []
   empty_of_nil [] g z = refl
   empty_of_nil (t ∷ ts) g z = absurd ((head_of_terms t ts g).0 (z (place_of t (fits_of t g.0))))
