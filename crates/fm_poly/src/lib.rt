@@ -10,6 +10,8 @@ pub mod poly_error;
 pub mod ring;
 pub(crate) mod scaling;
 pub mod term;
+#[cfg(test)]
+mod tests;
 pub(crate) mod twisting;
 
 pub use poly::Poly;
