@@ -11,13 +11,12 @@ pub mod poly_error;
 pub(crate) mod printing;
 pub mod ring;
 pub(crate) mod scaling;
+pub mod spelling;
 pub mod term;
 #[cfg(test)]
 mod tests;
-pub(crate) mod twisting;
-pub mod spelling;
-pub mod term;
 pub mod text_laws;
+pub(crate) mod twisting;
 
 pub use poly::Poly;
 pub use poly_error::PolyError;
