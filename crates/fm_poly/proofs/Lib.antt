@@ -8,9 +8,9 @@ pub mod MergeSteps
 pub mod CollectSteps
 pub mod SeenValues
 pub mod ProductSteps
-pub mod PieceSteps
-pub mod SpellingSteps
 pub mod BoundSteps
 pub mod PowerSteps
 pub mod TwistSteps
 pub mod KeptTerms
+pub mod PieceSteps
+pub mod SpellingSteps

@@ -13,6 +13,8 @@ pub mod ring;
 pub(crate) mod scaling;
 pub mod spelling;
 pub mod term;
+#[cfg(test)]
+mod tests;
 pub mod text_laws;
 pub(crate) mod twisting;
 

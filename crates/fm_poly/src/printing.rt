@@ -5,24 +5,17 @@ ghost use Rattle.fm_poly.specs.Polys.{pairs};
 ghost use Rattle.fm_poly.specs.Printing.{Extends, HaveLength, joined, separator};
 ghost use Rattle.fm_poly.specs.Texts.{Bytes, factor_text, factor_texts, poly_text, term_text};
 
-use crate::{Poly, Term};
+use crate::Term;
 use fm_mono::Exponent;
 use itoa::Buffer;
 use std::alloc::AllocError;
 
-impl Poly {
-    /// Appends the printed form.
-    pub fn text(&self, names: &[String], out: &mut Vec<u8>) -> Result<(), AllocError>
-        requires { length names.now ≡ self.now.ring.vars }
-        ensures ok { OnOk result (out.new.items ≡ out.old.items ++ poly_text (map string_bytes names.now) (pairs self.now.terms)) }
-        ensures prefix { Extends out.old.items out.new.items }
-    {
-        push_terms(names, self.terms(), out)
-    }
-}
-
 /// Appends the printed form of the polynomial with these terms.
-fn push_terms(names: &[String], terms: &[Term], out: &mut Vec<u8>) -> Result<(), AllocError>
+pub(crate) fn push_terms(
+    names: &[String],
+    terms: &[Term],
+    out: &mut Vec<u8>,
+) -> Result<(), AllocError>
     requires { HaveLength (length names.now) (pairs terms.now) }
     ensures ok { OnOk result (out.new.items ≡ out.old.items ++ poly_text (map string_bytes names.now) (pairs terms.now)) }
     ensures prefix { Extends out.old.items out.new.items }
