@@ -2,3 +2,4 @@ mod Rows
 pub mod Lines
 pub mod Steps
 pub mod Written
+pub mod Holding
