@@ -24,7 +24,7 @@ use Rattle.fm_limit.proofs.TwistedResolution.{row_read}
 use Rattle.fm_limit.proofs.FactsRead.{matrices_laws, row_fits, unit_read}
 
 module _ (p : Prime) (n : ℕ) where
-  unit_fits : HasShape p n 1 1 (matrix_unit p n 1)
+  pub unit_fits : HasShape p n 1 1 (matrix_unit p n 1)
   unfolding HasShape matrix_unit
   unit_fits = unit_shaped (polynomials p n) 1
 
@@ -77,7 +77,7 @@ module _ (p : Prime) (n : ℕ) where
         sym (moved_nothing s e z) ∙ (coboundary_first (matrices_laws p n) (complex_of p n (row p n fs ∷ [])) (theta_of p n (row p n fs ∷ []) (matrix_unit p n 1 ∷ [])) (e + s) (moved (matrices p n) (degree_in p n 0 M0) s e z)).0 h
 
   -- a family without rows is 0
-  no_rows : (k : ℕ) (X Y : Mat (polynomials p n) k 1) → k ≡ 0 → X ≡ Y
+  pub no_rows : (k : ℕ) (X Y : Mat (polynomials p n) k 1) → k ≡ 0 → X ≡ Y
   no_rows k X Y q = λ t i a j b. absurd {A = X i a j b ≡ Y i a j b} (omega arith) t
 
   columns_none : columns_of p n (row p n [] ∷ []) zero ≡ 0
