@@ -1,27 +1,30 @@
 -- A principal ideal in degree 1: its classes, and which of them are zero in the limit
-use Rattle.std.proofs.Common.{ℕ, zero, suc, ◌+◌, ◌-◌, ◌<◌, ◌≤◌, ◌≡◌, ◌∙◌, ◌↔◌, refl, sym, ap, ap₂, subst, arith, add-zero, List, [], ◌∷◌, length, get_or, ◌⊎◌, inl, inr}
+use Rattle.std.proofs.Common.{ℕ, zero, suc, ◌+◌, ◌-◌, ◌*◌, ◌%◌, ◌<◌, ◌≡◌, ◌∙◌, ◌↔◌, refl, sym, ap, ap₂, subst, arith, add-zero, List, [], ◌∷◌, length, get_or, inl, inr}
 use Rattle.fm_gfp.specs.Primes.{prime_value}
 use Rattle.fm_gfp.proofs.Residues.{prime_positive}
 use Rattle.fm_gfp.specs.declared.prime.Prime.{Prime}
-use Rattle.fm_algebra.specs.FiniteSums.{finite_sum, last}
-use Rattle.fm_algebra.specs.Families.{only, Mat, mul, unit, nil, flip, each, read, vector, element}
+use Rattle.fm_gfp.specs.declared.prime.Prime.TheVariants.{Two}
+use Rattle.fm_tuple.specs.Tuple.{tuple_multiple}
+use Rattle.fm_algebra.specs.Splits.{over_splits, over_pairs}
+use Rattle.fm_algebra.specs.FiniteSums.{finite_sum}
+use Rattle.fm_algebra.specs.Families.{only, Mat, mul, nil, flip, each, read, vector, element}
 use Rattle.fm_algebra.specs.Matrix.{entry, component}
 use Rattle.fm_algebra.specs.Image as image
 use Rattle.fm_algebra.specs.Power.{power}
-use Rattle.fm_algebra.specs.Polynomials.{Polynomial, polynomials, polynomial_zero, polynomial_one, polynomial_product, polynomial_power, frobenius_twist}
+use Rattle.fm_algebra.specs.Polynomials.{Polynomial, polynomials, polynomial_zero, polynomial_one, polynomial_product, polynomial_power, polynomial_term, coefficient, frobenius_twist}
 use Rattle.fm_algebra.specs.PolynomialMatrices.{PolynomialMatrix, HasShape, matrix_unit, matrix_product, matrix_twist, InImage, InKernel, GeneratesKernel}
 use Rattle.fm_algebra.proofs.Concrete.{polynomials_laws, twists_compose}
 use Rattle.fm_algebra.proofs.ListImages.{length_image}
-use Rattle.fm_algebra.proofs.Algebra.{mul_left_comm, mul_zero}
-use Rattle.fm_algebra.proofs.PolynomialWords.{cancel_factor, polynomials_domain}
-use Rattle.fm_algebra.proofs.TwistWords.{prime_power_is_twist, twist_of_zero, twist_of_product, twist_one_to_one}
+use Rattle.fm_algebra.proofs.Algebra.{mul_left_comm, mul_zero, mul_one}
+use Rattle.fm_algebra.proofs.PolynomialWords.{cancel_factor, polynomials_domain, coefficient_zero, coefficient_term, coefficient_term_elsewhere, coefficient_product}
+use Rattle.fm_algebra.proofs.TwistWords.{prime_power_is_twist, twist_of_zero, twist_of_product, twist_one_to_one, twist_at_multiple, twist_elsewhere}
 use Rattle.fm_algebra.proofs.FamilyPowers.{single}
-use Rattle.fm_algebra.proofs.Images.{image_nil, mul_nil, nil_mul}
+use Rattle.fm_algebra.proofs.Images.{image_nil, mul_nil}
 use Rattle.fm_algebra.proofs.Tables.{read_injective}
 use Rattle.fm_limit.specs.Resolution.{d_below}
-use Rattle.fm_limit.specs.DirectSystem.{Degree, IsCocycle, IsCoboundary, move, moved, IsKilledBy, IsZeroInLimit}
-use Rattle.fm_limit.specs.ResolvedIdeal.{ResolvedIdeal, matrix_at, columns_of, rank, row, InIdeal, IsResolutionOf, IsFrobeniusLiftOf, IsResolved}
-use Rattle.fm_limit.specs.Classes.{matrices, degree_in, length_in, vector_in, IsClass, IsCoboundaryAfter, IsZeroClass}
+use Rattle.fm_limit.specs.DirectSystem.{Degree, IsCoboundary, move, moved, IsKilledBy}
+use Rattle.fm_limit.specs.ResolvedIdeal.{matrix_at, rank, row, InIdeal, IsResolved}
+use Rattle.fm_limit.specs.Classes.{matrices, IsClass, IsCoboundaryAfter, IsZeroClass}
 use Rattle.fm_limit.specs.SmallIdeals.{one_entry, no_columns, principal}
 use Rattle.fm_limit.proofs.FactsRead.{matrices_laws, row_fits, product_read, twist_read, twist_fits, unit_read}
 use Rattle.fm_limit.proofs.TwistedResolution.{row_read}
@@ -108,13 +111,13 @@ module _ (p : Prime) (n : ℕ) where
     exact_first : GeneratesKernel p n (no_columns p n) (one_entry p n f)
     exact_first w = (
       λ h.
-        let l = kernel_length p n 1 1 (one_entry p n f) w (one_fits f) h in
-        (image_words p n 1 0 (no_columns p n) w no_fits l).1 (subst (λ v. image.InImage (matrices p n) (read (polynomials p n) 1 0 (no_columns p n)) v) (sym (zero_vector w l h)) (image_nil (matrices_laws p n) 1 (read (polynomials p n) 1 0 (no_columns p n)))),
+          let l = kernel_length p n 1 1 (one_entry p n f) w (one_fits f) h in
+          (image_words p n 1 0 (no_columns p n) w no_fits l).1 (subst (λ v. image.InImage (matrices p n) (read (polynomials p n) 1 0 (no_columns p n)) v) (sym (zero_vector w l h)) (image_nil (matrices_laws p n) 1 (read (polynomials p n) 1 0 (no_columns p n)))),
       λ h.
-        let l = image_length w h in
-        let x = (image_words p n 1 0 (no_columns p n) w no_fits l).0 h in
-        let z : vector (polynomials p n) 1 w ≡ nil (polynomials p n) 1 1 = sym x.1 ∙ no_product x.0 in
-        (kernel_words p n 1 1 (one_entry p n f) w (one_fits f) l).1 (ap (mul (polynomials p n) (read (polynomials p n) 1 1 (one_entry p n f))) z ∙ mul_nil (matrices_laws p n) (read (polynomials p n) 1 1 (one_entry p n f))),
+          let l = image_length w h in
+          let x = (image_words p n 1 0 (no_columns p n) w no_fits l).0 h in
+          let z : vector (polynomials p n) 1 w ≡ nil (polynomials p n) 1 1 = sym x.1 ∙ no_product x.0 in
+          (kernel_words p n 1 1 (one_entry p n f) w (one_fits f) l).1 (ap (mul (polynomials p n) (read (polynomials p n) 1 1 (one_entry p n f))) z ∙ mul_nil (matrices_laws p n) (read (polynomials p n) 1 1 (one_entry p n f))),
     )
 
     square_first : matrix_product p n (one_entry p n f) (one_entry p n cofactor) ≡ matrix_product p n (matrix_unit p n 1) (matrix_twist p n 1 (one_entry p n f))
@@ -197,8 +200,7 @@ module _ (p : Prime) (n : ℕ) where
         let t : Polynomial p n = frobenius_twist p n e cofactor in
         let r = moved_element s (suc e) (polynomial_product p n t z) in
         let q : suc e + s ≡ e + suc s = omega arith in
-        let a : polynomial_product p n t (polynomial_product p n (frobenius_twist p n e f) r.0) ≡ polynomial_product p n t (polynomial_product p n (frobenius_twist p n (e + suc s) f) z) = product_left_comm t (frobenius_twist p n e f) r.0 ∙ sym (product_assoc (frobenius_twist p n e f) t r.0) ∙ ap (λ v. polynomial_product p n v r.0) (twists_next e) ∙ r.2 ∙ ap (λ k. polynomial_product p n (frobenius_twist p n k f) (polynomial_product p n t z)) q ∙ product_left_comm (frobenius_twist p n (e + suc s) f) t z in
-        (
+        let a : polynomial_product p n t (polynomial_product p n (frobenius_twist p n e f) r.0) ≡ polynomial_product p n t (polynomial_product p n (frobenius_twist p n (e + suc s) f) z) = product_left_comm t (frobenius_twist p n e f) r.0 ∙ sym (product_assoc (frobenius_twist p n e f) t r.0) ∙ ap (λ v. polynomial_product p n v r.0) (twists_next e) ∙ r.2 ∙ ap (λ k. polynomial_product p n (frobenius_twist p n k f) (polynomial_product p n t z)) q ∙ product_left_comm (frobenius_twist p n (e + suc s) f) t z in (
           r.0,
           ap (moved (matrices p n) D s (suc e)) (move_element e z) ∙ r.1,
           cancel_factor p n t (polynomial_product p n (frobenius_twist p n e f) r.0) (polynomial_product p n (frobenius_twist p n (e + suc s) f) z) (times_nonzero e) a,
@@ -210,9 +212,9 @@ module _ (p : Prime) (n : ℕ) where
     unfolding flip each
     coboundary_element k y = (
       λ h.
-        let x : Polynomial p n = h.0 zero only zero only in
-        let q : element (polynomials p n) x ≡ h.0 = single (polynomials_laws p n) (frobenius_twist p n) (element (polynomials p n) x) h.0 refl in
-        (x, element_entry (polynomial_product p n (frobenius_twist p n k f) x) y (sym (element_product (frobenius_twist p n k f) x) ∙ ap (mul (polynomials p n) (element (polynomials p n) (frobenius_twist p n k f))) q ∙ sym (ap (λ A. mul (polynomials p n) (flip (polynomials p n) {m = 1} {n = 1} (each (polynomials p n) (frobenius_twist p n k) {m = 1} {n = 1} A)) h.0) (one_read f)) ∙ h.1)),
+          let x : Polynomial p n = h.0 zero only zero only in
+          let q : element (polynomials p n) x ≡ h.0 = single (polynomials_laws p n) (frobenius_twist p n) (element (polynomials p n) x) h.0 refl in
+          (x, element_entry (polynomial_product p n (frobenius_twist p n k f) x) y (sym (element_product (frobenius_twist p n k f) x) ∙ ap (mul (polynomials p n) (element (polynomials p n) (frobenius_twist p n k f))) q ∙ sym (ap (λ A. mul (polynomials p n) (flip (polynomials p n) {m = 1} {n = 1} (each (polynomials p n) (frobenius_twist p n k) {m = 1} {n = 1} A)) h.0) (one_read f)) ∙ h.1)),
       λ h. (element (polynomials p n) h.0, ap (λ A. mul (polynomials p n) (flip (polynomials p n) {m = 1} {n = 1} (each (polynomials p n) (frobenius_twist p n k) {m = 1} {n = 1} A)) (element (polynomials p n) h.0)) (one_read f) ∙ element_product (frobenius_twist p n k f) h.0 ∙ ap (element (polynomials p n)) h.1),
     )
 
@@ -252,3 +254,58 @@ module _ (p : Prime) (n : ℕ) where
     pub principal_zero : (e : ℕ) (z : Polynomial p n) → IsZeroClass p n 1 (principal p n f) e (z ∷ []) ↔ ((x : Polynomial p n) × (polynomial_product p n (frobenius_twist p n e f) x ≡ z))
     unfolding IsZeroClass principal matrix_at d_below
     principal_zero e z = (λ h. (killed_element h.0 e z).0 h.1, λ h. (0, (killed_element 0 e z).1 h))
+
+-- ---- the ideal (x) over GF(2)[x] at stage 1
+-- x
+abbrev pub x : Polynomial Two 1
+x = polynomial_term Two 1 1 (1 ∷ [])
+
+x_nonzero : ¬ (x ≡ polynomial_zero Two 1)
+x_nonzero h =
+    let a : coefficient Two 1 x (1 ∷ []) ≡ 1 = coefficient_term Two 1 1 (1 ∷ []) refl in
+    let b : coefficient Two 1 x (1 ∷ []) ≡ 0 = ap (λ f. coefficient Two 1 f (1 ∷ [])) h ∙ coefficient_zero Two 1 (1 ∷ []) in
+    absurd (omega arith)
+
+one_not_zero : (k : ℕ) → 1 ≡ k → k ≡ 0 → ⊥
+one_not_zero k a b = omega arith
+
+one_not_even : (k i : ℕ) → 1 ≡ k → k ≡ 2 * i → ⊥
+one_not_even k i a b = omega arith
+
+no_double : (b : List ℕ) → ¬ ((1 ∷ []) ≡ tuple_multiple 2 b)
+no_double [] e = one_not_zero (length {A = ℕ} (1 ∷ [])) refl (ap length e)
+no_double (i ∷ b) e = one_not_even (get_or (1 ∷ []) 0 0) i refl (ap (λ k. get_or k 0 0) e)
+
+-- the twist of x has no constant term and no term x
+twist_at_zero : coefficient Two 1 (frobenius_twist Two 1 1 x) (0 ∷ []) ≡ 0
+twist_at_zero = twist_at_multiple Two 1 1 x (0 ∷ []) ∙ coefficient_term_elsewhere Two 1 1 (1 ∷ []) (0 ∷ []) (λ e. let h : 0 ≡ 1 = heads e in absurd (omega arith))
+  where
+    heads : {i j : ℕ} {a b : List ℕ} → i ∷ a ≡ j ∷ b → i ≡ j
+    heads e = cc
+
+twist_at_one : coefficient Two 1 (frobenius_twist Two 1 1 x) (1 ∷ []) ≡ 0
+twist_at_one = twist_elsewhere Two 1 1 x (1 ∷ []) no_double
+
+-- x^2 does not divide x
+not_divisible : (y : Polynomial Two 1) → ¬ (polynomial_product Two 1 (frobenius_twist Two 1 1 x) y ≡ x)
+unfolding over_splits over_pairs
+not_divisible y h =
+    let f : Polynomial Two 1 = frobenius_twist Two 1 1 x in
+    let a : coefficient Two 1 x (1 ∷ []) ≡ 1 = coefficient_term Two 1 1 (1 ∷ []) refl in
+    let b : coefficient Two 1 (polynomial_product Two 1 f y) (1 ∷ []) ≡ (coefficient Two 1 f (0 ∷ []) * coefficient Two 1 y (1 ∷ []) + coefficient Two 1 f (1 ∷ []) * coefficient Two 1 y (0 ∷ [])) % 2 = coefficient_product Two 1 f y (1 ∷ []) in
+    let c : coefficient Two 1 (polynomial_product Two 1 f y) (1 ∷ []) ≡ 0 = b ∙ ap₂ (λ u v. (u * coefficient Two 1 y (1 ∷ []) + v * coefficient Two 1 y (0 ∷ [])) % 2) twist_at_zero twist_at_one ∙ nothing (coefficient Two 1 y (1 ∷ [])) (coefficient Two 1 y (0 ∷ [])) in
+    let d : coefficient Two 1 (polynomial_product Two 1 f y) (1 ∷ []) ≡ coefficient Two 1 x (1 ∷ []) = ap (λ g. coefficient Two 1 g (1 ∷ [])) h in
+    absurd (omega arith)
+  where
+    nothing : (u v : ℕ) → (0 * u + 0 * v) % 2 ≡ 0
+    nothing u v = let q : 0 * u + 0 * v ≡ 0 = omega arith in ap (λ k. k % 2) q
+
+-- the class x at stage 1 is never a coboundary
+pub x_at_stage_one : IsZeroClass Two 1 1 (principal Two 1 x) 1 (x ∷ []) → ⊥
+x_at_stage_one h = let r = (principal_zero Two 1 x x_nonzero 1 x).0 h in not_divisible r.0 r.1
+
+-- the class x^2 at stage 1 is one
+pub x_squared_at_stage_one : IsCoboundaryAfter Two 1 1 (principal Two 1 x) 0 1 (polynomial_power Two 1 2 x ∷ [])
+unfolding polynomial_product polynomial_one
+x_squared_at_stage_one =
+    (principal_killed Two 1 x x_nonzero 0 1 (polynomial_power Two 1 2 x)).1 (polynomial_one Two 1, mul_one (polynomials_laws Two 1) (frobenius_twist Two 1 1 x) ∙ sym (prime_power_is_twist Two 1 x))

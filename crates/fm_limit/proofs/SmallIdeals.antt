@@ -1,21 +1,20 @@
 -- Ideals in degree 0, the zero ideal, the unit ideal, and f = 0
-use Rattle.std.proofs.Common.{ℕ, zero, suc, ◌+◌, ◌<◌, ◌≡◌, ◌∙◌, ◌↔◌, refl, sym, ap, subst, arith, List, [], ◌∷◌, length}
+use Rattle.std.proofs.Common.{ℕ, zero, suc, ◌+◌, ◌≡◌, ◌∙◌, ◌↔◌, refl, sym, ap, subst, arith, List, [], ◌∷◌, length}
 use Rattle.fm_gfp.specs.declared.prime.Prime.{Prime}
-use Rattle.fm_algebra.specs.Families.{only, Mat, mul, unit, nil, flip, each, read, vector, element}
+use Rattle.fm_algebra.specs.Families.{only, Mat, mul, unit, nil, flip, each, read, element}
 use Rattle.fm_algebra.specs.Matrix.{component}
-use Rattle.fm_algebra.specs.Image as image
 use Rattle.fm_algebra.specs.Image.{pow}
 use Rattle.fm_algebra.specs.Polynomials.{Polynomial, polynomials, polynomial_zero, polynomial_one, frobenius_twist}
-use Rattle.fm_algebra.specs.PolynomialMatrices.{PolynomialMatrix, HasShape, matrix_unit, matrix_column, matrix_transpose}
+use Rattle.fm_algebra.specs.PolynomialMatrices.{PolynomialMatrix, HasShape, matrix_unit}
 use Rattle.fm_algebra.proofs.Concrete.{polynomials_laws}
 use Rattle.fm_algebra.proofs.PolynomialWords.{one_differs}
 use Rattle.fm_algebra.proofs.FamilyPowers.{single}
-use Rattle.fm_algebra.proofs.Images.{image_nil, mul_nil, nil_mul}
-use Rattle.fm_algebra.proofs.Tables.{unit_shaped, read_transpose, read_column, column_shaped}
+use Rattle.fm_algebra.proofs.Images.{image_nil, mul_nil}
+use Rattle.fm_algebra.proofs.Tables.{unit_shaped}
 use Rattle.fm_limit.specs.Resolution.{d_below}
 use Rattle.fm_limit.specs.DirectSystem.{IsCocycle, IsCoboundary, move, moved, IsKilledBy, IsZeroInLimit}
-use Rattle.fm_limit.specs.ResolvedIdeal.{ResolvedIdeal, matrix_at, columns_of, rank, row, InIdeal, IsResolutionOf, IsFrobeniusLiftOf, IsResolved}
-use Rattle.fm_limit.specs.Classes.{matrices, complex_of, theta_of, degree_in, length_in, vector_in, IsZeroLimit, VanishesAfterInverting}
+use Rattle.fm_limit.specs.ResolvedIdeal.{ResolvedIdeal, matrix_at, columns_of, rank, row, InIdeal, IsResolved}
+use Rattle.fm_limit.specs.Classes.{matrices, complex_of, theta_of, degree_in, length_in, IsZeroLimit, VanishesAfterInverting}
 use Rattle.fm_limit.specs.SmallIdeals.{in_degree_zero}
 use Rattle.fm_limit.proofs.Homotopy.{coboundary_first}
 use Rattle.fm_limit.proofs.Independence.{flip_unit}
