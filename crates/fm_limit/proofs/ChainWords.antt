@@ -18,7 +18,7 @@ use Rattle.fm_limit.proofs.FactsRead.{matrices_laws, matrices_flat, product_read
 use Rattle.fm_limit.proofs.InducedFacts.{beside_read, beside_fits, maps_read, square_read, target_fits, lambda}
 
 module _ (p : Prime) (n : ℕ) where
-  product_fits : (a b c : ℕ) (A B : PolynomialMatrix p n) → HasShape p n a b A → HasShape p n b c B → HasShape p n a c (matrix_product p n A B)
+  pub product_fits : (a b c : ℕ) (A B : PolynomialMatrix p n) → HasShape p n a b A → HasShape p n b c B → HasShape p n a c (matrix_product p n A B)
   unfolding HasShape matrix_product
   product_fits a b c A B s t = product_shaped (polynomials p n) a c A B s.0 t.1
 

@@ -19,3 +19,4 @@ pub mod HomotopyWords
 pub mod ChainWords
 pub mod TwistedResolution
 pub mod SmallIdeals
+pub mod Principal

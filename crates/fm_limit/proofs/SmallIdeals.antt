@@ -1,21 +1,20 @@
 -- Ideals in degree 0, the zero ideal, the unit ideal, and f = 0
-use Rattle.std.proofs.Common.{ℕ, zero, suc, ◌+◌, ◌<◌, ◌≡◌, ◌∙◌, ◌↔◌, refl, sym, ap, subst, arith, List, [], ◌∷◌, length}
+use Rattle.std.proofs.Common.{ℕ, zero, suc, ◌+◌, ◌≡◌, ◌∙◌, ◌↔◌, refl, sym, ap, subst, arith, List, [], ◌∷◌, length}
 use Rattle.fm_gfp.specs.declared.prime.Prime.{Prime}
-use Rattle.fm_algebra.specs.Families.{only, Mat, mul, unit, nil, flip, each, read, vector, element}
+use Rattle.fm_algebra.specs.Families.{only, Mat, mul, unit, nil, flip, each, read, element}
 use Rattle.fm_algebra.specs.Matrix.{component}
-use Rattle.fm_algebra.specs.Image as image
 use Rattle.fm_algebra.specs.Image.{pow}
 use Rattle.fm_algebra.specs.Polynomials.{Polynomial, polynomials, polynomial_zero, polynomial_one, frobenius_twist}
-use Rattle.fm_algebra.specs.PolynomialMatrices.{PolynomialMatrix, HasShape, matrix_unit, matrix_column, matrix_transpose}
+use Rattle.fm_algebra.specs.PolynomialMatrices.{PolynomialMatrix, HasShape, matrix_unit}
 use Rattle.fm_algebra.proofs.Concrete.{polynomials_laws}
 use Rattle.fm_algebra.proofs.PolynomialWords.{one_differs}
 use Rattle.fm_algebra.proofs.FamilyPowers.{single}
-use Rattle.fm_algebra.proofs.Images.{image_nil, mul_nil, nil_mul}
-use Rattle.fm_algebra.proofs.Tables.{unit_shaped, read_transpose, read_column, column_shaped}
+use Rattle.fm_algebra.proofs.Images.{image_nil, mul_nil}
+use Rattle.fm_algebra.proofs.Tables.{unit_shaped}
 use Rattle.fm_limit.specs.Resolution.{d_below}
 use Rattle.fm_limit.specs.DirectSystem.{IsCocycle, IsCoboundary, move, moved, IsKilledBy, IsZeroInLimit}
-use Rattle.fm_limit.specs.ResolvedIdeal.{ResolvedIdeal, matrix_at, columns_of, rank, row, InIdeal, IsResolutionOf, IsFrobeniusLiftOf, IsResolved}
-use Rattle.fm_limit.specs.Classes.{matrices, complex_of, theta_of, degree_in, length_in, vector_in, IsZeroLimit, VanishesAfterInverting}
+use Rattle.fm_limit.specs.ResolvedIdeal.{ResolvedIdeal, matrix_at, columns_of, rank, row, InIdeal, IsResolved}
+use Rattle.fm_limit.specs.Classes.{matrices, complex_of, theta_of, degree_in, length_in, IsZeroLimit, VanishesAfterInverting}
 use Rattle.fm_limit.specs.SmallIdeals.{in_degree_zero}
 use Rattle.fm_limit.proofs.Homotopy.{coboundary_first}
 use Rattle.fm_limit.proofs.Independence.{flip_unit}
@@ -24,7 +23,7 @@ use Rattle.fm_limit.proofs.TwistedResolution.{row_read}
 use Rattle.fm_limit.proofs.FactsRead.{matrices_laws, row_fits, unit_read}
 
 module _ (p : Prime) (n : ℕ) where
-  unit_fits : HasShape p n 1 1 (matrix_unit p n 1)
+  pub unit_fits : HasShape p n 1 1 (matrix_unit p n 1)
   unfolding HasShape matrix_unit
   unit_fits = unit_shaped (polynomials p n) 1
 
@@ -77,7 +76,7 @@ module _ (p : Prime) (n : ℕ) where
         sym (moved_nothing s e z) ∙ (coboundary_first (matrices_laws p n) (complex_of p n (row p n fs ∷ [])) (theta_of p n (row p n fs ∷ []) (matrix_unit p n 1 ∷ [])) (e + s) (moved (matrices p n) (degree_in p n 0 M0) s e z)).0 h
 
   -- a family without rows is 0
-  no_rows : (k : ℕ) (X Y : Mat (polynomials p n) k 1) → k ≡ 0 → X ≡ Y
+  pub no_rows : (k : ℕ) (X Y : Mat (polynomials p n) k 1) → k ≡ 0 → X ≡ Y
   no_rows k X Y q = λ t i a j b. absurd {A = X i a j b ≡ Y i a j b} (omega arith) t
 
   columns_none : columns_of p n (row p n [] ∷ []) zero ≡ 0
