@@ -1,25 +1,24 @@
 -- The verdicts of right reports hold.
-use Rattle.std.proofs.Common.{◌≡◌, ℕ, zero, ◌+◌, ◌≤◌, List, [], ◌∷◌, ◌++◌, map, length, replicate, refl, sym, ap, ap₂, subst, ◌∙◌, arith, inl, inr, add-zero, append-nil}
+use Rattle.std.proofs.Common.{◌≡◌, ℕ, zero, List, [], ◌∷◌, ◌++◌, map, length, replicate, refl, sym, ap, ap₂, subst, ◌∙◌, arith, add-zero, append-nil}
 use Rattle.std.specs.Prelude.{Option, Some, None, Bool, true, false}
 use Rattle.std.specs.List.{flat_map}
 use Rattle.fm_gfp.specs.declared.prime.Prime.{Prime}
 use Rattle.fm_algebra.specs.Matrix.{listed, table, scalar_matrix, unit_matrix}
-use Rattle.fm_algebra.specs.PolynomialMatrices.{PolynomialMatrix, matrix_unit}
+use Rattle.fm_algebra.specs.PolynomialMatrices.{matrix_unit}
 use Rattle.fm_algebra.specs.Polynomials.{Polynomial, polynomial_of, polynomial_zero, polynomial_one, polynomial_sum, polynomial_term, polynomial_product, frobenius_twist}
 use Rattle.fm_algebra.proofs.Algebra.{add_zero}
 use Rattle.fm_algebra.proofs.Concrete.{polynomials_laws}
 use Rattle.fm_algebra.proofs.PolynomialWords.{one_is_a_term, cancel_factor}
 use Rattle.fm_limit.specs.ResolvedIdeal.{ResolvedIdeal, IsResolved}
-use Rattle.fm_limit.specs.Classes.{IsClass, IsCoboundaryAfter, IsZeroClass}
 use Rattle.fm_limit.specs.Verdicts as limit
 use Rattle.fm_limit.specs.Verdicts.{HoldsOfClass, zero_class}
 use Rattle.fm_limit.specs.SmallIdeals.{one_entry, no_columns, principal}
 use Rattle.fm_limit.proofs.Principal.{times_cofactor, principal_resolved, principal_class, principal_killed, principal_zero}
-use Rattle.fm_poly.specs.Texts.{Bytes, Terms}
-use Rattle.fm_report.specs.Statements.{Part, given, class, Answer, yes_at_stage, no, AnsweredQuery, Statement, verdict, part_value, printed_matrix}
+use Rattle.fm_poly.specs.Texts.{Bytes}
+use Rattle.fm_report.specs.Statements.{given, Statement, verdict, part_value, printed_matrix}
 use Rattle.fm_report.specs.Reading.{statements}
 use Rattle.fm_report.specs.Writing.{End, answered, unanswered, QueryReport, Report, said_of, report_says, report_text, IsWritable}
-use Rattle.fm_report.specs.Holding.{stage_of, resolved_ideal, QueryHolds, AllHold, VerdictsHold, VerdictsHoldSince}
+use Rattle.fm_report.specs.Holding.{stage_of, QueryHolds, AllHold, VerdictsHold, VerdictsHoldSince}
 use Rattle.fm_report.specs.PrincipalQueries.{PrincipalQuery, principal_answer, principal_report, DividesExactly, IsRight, IsRightEnd, AreRight}
 use Rattle.fm_report.proofs.Lines.{statements_begin}
 use Rattle.fm_report.proofs.Written.{report_read}
@@ -42,7 +41,7 @@ module _ (p : Prime) (n : ℕ) where
   unfolding principal ideal_with
   is_principal f u t nonzero e l =
       ap₂ (λ A B. record { generators = f ∷ []; differentials = one_entry p n f ∷ no_columns p n ∷ []; lift = A ∷ one_entry p n B ∷ [] })
-        (ap (one_entry p n) e ∙ sym unit_is_one) (cancel_factor p n f t _ nonzero (l ∙ sym (times_cofactor p n f nonzero)))
+      (ap (one_entry p n) e ∙ sym unit_is_one) (cancel_factor p n f t _ nonzero (l ∙ sym (times_cofactor p n f nonzero)))
 
   -- the answer holds along f^(p-1)
   answer_holds : (f z : Polynomial p n) (nonzero : f ≡ polynomial_zero p n → ⊥) (e : ℕ) (b : Bool) → DividesExactly p n (frobenius_twist p n e f) z b
@@ -65,11 +64,10 @@ principal_holds p names c r =
     let n = length names in
     let f = polynomial_of p n c.f in
     let z = polynomial_of p n c.z in
-    let ideal = is_principal p n f (polynomial_of p n ((replicate n 0, 1) ∷ [])) (polynomial_of p n c.theta) r.nonzero (one_means p n) r.lift in
-    (
+    let ideal = is_principal p n f (polynomial_of p n ((replicate n 0, 1) ∷ [])) (polynomial_of p n c.theta) r.nonzero (one_means p n) r.lift in (
       subst (IsResolved p n 1) (sym ideal) (principal_resolved p n f r.nonzero),
       subst (λ I. limit.Holds p n (zero_class 1 I c.stage (z ∷ []) (stage_of (principal_answer c.divides c.stage)))) (sym ideal)
-        (principal_class p n f r.nonzero c.stage z, answer_holds p n f z r.nonzero c.stage c.divides r.answer),
+          (principal_class p n f r.nonzero c.stage z, answer_holds p n f z r.nonzero c.stage c.divides r.answer),
     )
 
 -- ---- reports

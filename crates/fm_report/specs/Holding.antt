@@ -5,7 +5,7 @@ use Rattle.fm_limit.specs.ResolvedIdeal.{ResolvedIdeal, IsResolved}
 use Rattle.fm_limit.specs.Verdicts as limit
 use Rattle.fm_limit.specs.Verdicts.{zero_class}
 use Rattle.fm_poly.specs.Texts.{Bytes, Terms}
-use Rattle.fm_report.specs.Statements.{ClassQuestion, Question, class, Answer, yes_at_stage, no, AnsweredQuery, Statement, verdict, part_value}
+use Rattle.fm_report.specs.Statements.{Question, class, Answer, yes_at_stage, no, AnsweredQuery, Statement, verdict, part_value}
 use Rattle.fm_report.specs.Reading.{statements}
 
 -- the stage at which a class is zero, if the answer is yes

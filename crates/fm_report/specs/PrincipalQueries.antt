@@ -1,5 +1,5 @@
 -- Queries on classes of degree 1 of principal ideals, as they are answered.
-use Rattle.std.specs.Prelude.{◌≡◌, ℕ, List, [], ◌∷◌, length, replicate, Bool, true, false}
+use Rattle.std.specs.Prelude.{◌≡◌, ℕ, List, [], ◌∷◌, replicate, Bool, true, false}
 use Rattle.fm_gfp.specs.declared.prime.Prime.{Prime}
 use Rattle.fm_algebra.specs.Polynomials.{Polynomial, polynomial_of, polynomial_zero, polynomial_product, frobenius_twist}
 use Rattle.fm_poly.specs.Texts.{Bytes, Terms}
