@@ -1,13 +1,20 @@
 // Laws of Gröbner bases of the graph of a matrix.
-ghost use Rattle.std.specs.Prelude.{ℕ, List, ◌++◌, ◌+◌, ◌≡◌, ◌↔◌, length, map};
+ghost use Rattle.std.specs.Prelude.{ℕ, List, [], ◌++◌, ◌+◌, ◌≡◌, ◌↔◌, get_or, length, map};
 ghost use Rattle.fm_gfp.specs.declared.prime.Prime.{Prime};
 ghost use Rattle.fm_mono.specs.declared.order.Order.{Order};
+ghost use Rattle.fm_algebra.specs.Matrix.{listed};
 ghost use Rattle.fm_algebra.specs.Polynomials.{Polynomial};
-ghost use Rattle.fm_algebra.specs.PolynomialMatrices.{InImage, InKernel, PolynomialMatrix, matrix_twist, vector_product, vector_twist};
+ghost use Rattle.fm_algebra.specs.PolynomialMatrices.{HasShape, InImage, InKernel, PolynomialMatrix, matrix_twist, vector_product, vector_twist};
 ghost use Rattle.fm_groebner.specs.Terms.{AreFalling, IsBelowBlock, IsFalling, Term, vector_of, vectors_of};
 ghost use Rattle.fm_groebner.specs.Bases.{generators};
 ghost use Rattle.fm_groebner.specs.Logs.{IsIrreducible, ReducesBy};
-ghost use Rattle.fm_groebner.specs.Graphs.{AreLowerBlocks, IsGraphBasis, vector_negative, zero_vector};
+ghost use Rattle.fm_groebner.specs.Graphs.{AreLowerBlocks, IsGraphBasis, graph, unit_vector, vector_negative, zero_vector};
+
+/// The columns of the graph are those of the matrix, each above a unit vector.
+pub fn the_columns_of_the_graph_stand_above_unit_vectors()
+    ensures { (p : Prime) (n : ℕ) (A : PolynomialMatrix p n) → HasShape p n A.rows (length A.columns) A
+        → (graph p n A).columns ≡ listed (length A.columns) (λ j. get_or A.columns j [] ++ unit_vector p n (length A.columns) j) }
+{}
 
 /// The lower blocks of the members whose upper block is zero generate the kernel of the matrix.
 pub fn the_lower_blocks_generate_the_kernel()
