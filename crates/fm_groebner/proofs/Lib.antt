@@ -26,3 +26,4 @@ pub mod TermWords
 pub mod Reductions
 pub mod Consequences
 pub mod Determined
+pub mod Examples
