@@ -34,3 +34,4 @@ pub mod HeadTwist
 pub mod HeadWords
 pub mod SplitWords
 pub mod SliceSum
+pub mod WorkedExamples

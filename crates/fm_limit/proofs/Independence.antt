@@ -1,16 +1,20 @@
 -- The limit does not depend on the resolution, the Frobenius lift or the lift of the identity
-use Rattle.std.proofs.Common.{ℕ, zero, suc, ◌+◌, ◌<◌, ◌≤◌, ◌≡◌, ◌↔◌, ◌∙◌, refl, sym, ap, subst, arith, add-zero}
+use Rattle.std.proofs.Common.{ℕ, zero, suc, ◌+◌, ◌<◌, ◌≤◌, ◌≡◌, ◌∙◌, refl, sym, ap, subst, arith, add-zero}
 use native.Mathlib.Decide.{dec_le}
 use native.Mathlib.Bridge.{le_prop}
 use Rattle.fm_algebra.specs.Matrices.{Matrices, IsMatrices}
-use Rattle.fm_algebra.specs.Image.{InImage, SameImage, IsPower, pow}
-use Rattle.fm_algebra.proofs.Images.{image_add, image_nil, image_neg, image_trans, within_columns, columns_within, nil_add, neg_unique, sub_add, mul_neg, kernel_product, kernel_matrix, mul_nil}
-use Rattle.fm_limit.specs.Resolution.{rank_of, d_below, Complex, IsResolution, IsFrobeniusLift, IsLiftOfIdentity}
-use Rattle.fm_limit.specs.DirectSystem.{degree, Degree, IsCocycle, IsCoboundary, move, moved, IsKilledBy, IsZeroInLimit, IsSameInLimit}
-use Rattle.fm_limit.specs.Limit.{mapped, LimitIsZero, VanishesInverting, Annihilates, IsEnough, IsSupportIdeal, InducedMapIsZero, InducedMapIsOneToOne, InducedMapIsOnto}
-use Rattle.fm_limit.proofs.Moves.{Moves, dual, cocycle_moves, cocycles_moves, coboundary_cocycle, coboundaries_moves, moved_add, moved_neg}
-use Rattle.fm_limit.proofs.Maps.{Maps, mapped_coboundary, mapped_move, mapped_cocycle}
-use Rattle.fm_limit.proofs.Homotopy.{lift_moves, lift_maps, identities_differ, upper_square}
+use Rattle.fm_algebra.specs.Image.{InImage}
+use Rattle.fm_algebra.proofs.Images.{image_add, image_nil, image_neg, image_trans, within_columns, nil_add, neg_unique, sub_add, mul_neg, kernel_product, kernel_matrix, mul_nil}
+use Rattle.fm_limit.specs.Resolution.{rank_of, Complex}
+use Rattle.fm_limit.proofs.Resolutions.{IsResolution, IsLiftOfIdentity}
+use Rattle.fm_limit.specs.DirectSystem.{Degree, IsCocycle, IsCoboundary, move, moved, IsKilledBy, IsZeroInLimit}
+use Rattle.fm_limit.specs.Limit.{mapped}
+use Rattle.fm_limit.proofs.Moves.{Moves, cocycle_moves, coboundaries_moves, moved_add, moved_neg}
+use Rattle.fm_limit.proofs.Maps.{Maps, mapped_coboundary, mapped_move}
+
+-- s moves of (e, z) and s' moves of (e', z') come to one stage, where they differ by a coboundary
+abbrev pub IsSameBy : {M : Matrices} (D : Degree M) (s s' e : ℕ) (z : M.Mat D.mid 1) (e' : ℕ) (z' : M.Mat D.mid 1) → Type 0
+IsSameBy {M} D s s' e z e' z' = (e + s ≡ e' + s') × IsCoboundary M D (e + s) (M.◌⊕◌ (moved M D s e z) (M.neg (moved M D s' e' z')))
 
 module _ {M : Matrices} (L : IsMatrices M) where
   open M use {Mat, ◌⊛◌, ◌⊕◌, neg, nil, unit, flip, twist}
@@ -76,41 +80,39 @@ module _ {M : Matrices} (L : IsMatrices M) where
     mapped_sub e x y = dist_left (flip (twist e lambda)) x (neg y) ∙ ap (λ v. mapped M S T lambda e x ⊕ v) (mul_neg L (flip (twist e lambda)) y)
 
     -- classes that are the same have images that are the same
-    pub mapped_same : (e : ℕ) (x : Mat S.mid 1) (e' : ℕ) (y : Mat S.mid 1) → IsCocycle M S e x → IsCocycle M S e' y → IsSameInLimit M S e x e' y
-        → IsSameInLimit M T e (mapped M S T lambda e x) e' (mapped M S T lambda e' y)
-    mapped_same e x e' y cx cy h =
-        let s : ℕ = h.0 in
-        let s' : ℕ = h.1 in
-        let q : e + s ≡ e' + s' = h.2 in
+    pub mapped_same : (s s' e : ℕ) (x : Mat S.mid 1) (e' : ℕ) (y : Mat S.mid 1) → IsCocycle M S e x → IsCocycle M S e' y → IsSameBy S s s' e x e' y
+        → IsSameBy T s s' e (mapped M S T lambda e x) e' (mapped M S T lambda e' y)
+    mapped_same s s' e x e' y cx cy h =
+        let q : e + s ≡ e' + s' = h.0 in
         let B : Mat T.mid T.low = flip (twist (e + s) T.below) in
         let a : Mat T.mid 1 = moved M T s e (mapped M S T lambda e x) in
         let b : Mat T.mid 1 = mapped M S T lambda (e + s) (moved M S s e x) in
         let c : Mat T.mid 1 = mapped M S T lambda (e + s) (moved M S s' e' y) in
         let d : Mat T.mid 1 = moved M T s' e' (mapped M S T lambda e' y) in
         let ab : InImage M B (a ⊕ neg b) = subst (λ v. InImage M B v) (neg_sub b a) (image_neg L B (b ⊕ neg a) (mapped_moves s e x cx)) in
-        let bc : InImage M B (b ⊕ neg c) = subst (λ v. InImage M B v) (mapped_sub (e + s) (moved M S s e x) (moved M S s' e' y)) (mapped_coboundary L A (e + s) (moved M S s e x ⊕ neg (moved M S s' e' y)) h.3) in
+        let bc : InImage M B (b ⊕ neg c) = subst (λ v. InImage M B v) (mapped_sub (e + s) (moved M S s e x) (moved M S s' e' y)) (mapped_coboundary L A (e + s) (moved M S s e x ⊕ neg (moved M S s' e' y)) h.1) in
         let cd : InImage M B (c ⊕ neg d) = subst (λ k. InImage M (flip (twist k T.below)) (mapped M S T lambda k (moved M S s' e' y) ⊕ neg d)) (sym q) (mapped_moves s' e' y cy) in
         let ac : InImage M B (a ⊕ neg c) = subst (λ v. InImage M B v) (sub_chain a b c) (image_add L B (a ⊕ neg b) (b ⊕ neg c) ab bc) in
-        (s, s', q, subst (λ v. InImage M B v) (sub_chain a c d) (image_add L B (a ⊕ neg c) (c ⊕ neg d) ac cd))
+        (q, subst (λ v. InImage M B v) (sub_chain a c d) (image_add L B (a ⊕ neg c) (c ⊕ neg d) ac cd))
 
   -- ---- the same in the limit, up to coboundaries
-  pub same_near : {D : Degree M} → Moves M D → (e : ℕ) (x y : Mat D.mid 1) (e' : ℕ) (z : Mat D.mid 1) → IsCoboundary M D e (x ⊕ neg y) → IsSameInLimit M D e y e' z → IsSameInLimit M D e x e' z
-  same_near {D} H e x y e' z c h =
-      let s : ℕ = h.0 in
+  pub same_near : {D : Degree M} → Moves M D → (s s' e : ℕ) (x y : Mat D.mid 1) (e' : ℕ) (z : Mat D.mid 1)
+      → IsCoboundary M D e (x ⊕ neg y) → IsSameBy D s s' e y e' z → IsSameBy D s s' e x e' z
+  same_near {D} H s s' e x y e' z c h =
       let B : Mat D.mid D.low = flip (twist (e + s) D.below) in
       let a : Mat D.mid 1 = moved M D s e x in
       let b : Mat D.mid 1 = moved M D s e y in
-      let d : Mat D.mid 1 = moved M D h.1 e' z in
+      let d : Mat D.mid 1 = moved M D s' e' z in
       let ab : InImage M B (a ⊕ neg b) = subst (λ v. InImage M B v) (moved_add L D s e x (neg y) ∙ ap (λ v. a ⊕ v) (moved_neg L D s e y)) (coboundaries_moves L H s e (x ⊕ neg y) c) in
-      (s, h.1, h.2, subst (λ v. InImage M B v) (sub_chain a b d) (image_add L B (a ⊕ neg b) (b ⊕ neg d) ab h.3))
+      (h.0, subst (λ v. InImage M B v) (sub_chain a b d) (image_add L B (a ⊕ neg b) (b ⊕ neg d) ab h.1))
 
-  pub same_turned : (D : Degree M) (e : ℕ) (x : Mat D.mid 1) (e' : ℕ) (y : Mat D.mid 1) → IsSameInLimit M D e x e' y → IsSameInLimit M D e' y e x
-  same_turned D e x e' y h =
-      let B : Mat D.mid D.low = flip (twist (e' + h.1) D.below) in
-      let a : Mat D.mid 1 = moved M D h.0 e x in
-      let b : Mat D.mid 1 = moved M D h.1 e' y in
-      let k : InImage M B (a ⊕ neg b) = subst (λ n. InImage M (flip (twist n D.below)) (a ⊕ neg b)) h.2 h.3 in
-      (h.1, h.0, sym h.2, subst (λ v. InImage M B v) (neg_sub a b) (image_neg L B (a ⊕ neg b) k))
+  pub same_turned : (D : Degree M) (s s' e : ℕ) (x : Mat D.mid 1) (e' : ℕ) (y : Mat D.mid 1) → IsSameBy D s s' e x e' y → IsSameBy D s' s e' y e x
+  same_turned D s s' e x e' y h =
+      let B : Mat D.mid D.low = flip (twist (e' + s') D.below) in
+      let a : Mat D.mid 1 = moved M D s e x in
+      let b : Mat D.mid 1 = moved M D s' e' y in
+      let k : InImage M B (a ⊕ neg b) = subst (λ n. InImage M (flip (twist n D.below)) (a ⊕ neg b)) h.0 h.1 in
+      (sym h.0, subst (λ v. InImage M B v) (neg_sub a b) (image_neg L B (a ⊕ neg b) k))
 
   -- ---- lifts of the identity: composites, the identity, existence
   pub lift_after : {i : ℕ} {P Q V : Complex M} (k : (j : ℕ) → Mat (rank_of Q.cols j) (rank_of P.cols j)) (l : (j : ℕ) → Mat (rank_of V.cols j) (rank_of Q.cols j))

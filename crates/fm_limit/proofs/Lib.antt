@@ -1,3 +1,4 @@
+pub mod Resolutions
 pub mod Chains
 pub mod Moves
 pub mod Vanishing
@@ -6,3 +7,14 @@ pub mod Homotopy
 pub mod Induced
 pub mod Independence
 pub mod Resolved
+pub mod Reading
+pub mod FactsRead
+pub mod Waist
+pub mod ColonFacts
+pub mod InducedFacts
+pub mod VerdictLaws
+pub mod StageWords
+pub mod IndependenceWords
+pub mod HomotopyWords
+pub mod ChainWords
+pub mod TwistedResolution

@@ -1,15 +1,16 @@
 -- Ideals with resolutions and lifts: what is said of the limit does not depend on them
-use Rattle.std.proofs.Common.{ℕ, zero, suc, ◌+◌, ◌<◌, ◌≤◌, ◌≡◌, ◌↔◌, ◌∙◌, refl, sym, ap, subst}
+use Rattle.std.proofs.Common.{ℕ, zero, ◌+◌, ◌<◌, ◌≡◌, ◌↔◌, ◌∙◌, sym, ap, subst, arith}
 use Rattle.fm_algebra.specs.Matrices.{Matrices, IsMatrices}
 use Rattle.fm_algebra.specs.Image.{InImage, IsPower, pow}
-use Rattle.fm_algebra.proofs.Images.{image_trans, image_add, image_neg, nil_mul}
-use Rattle.fm_limit.specs.Resolution.{rank_of, rank_before, d_below, Complex, IsResolution, IsFrobeniusLift, IsLiftOfIdentity}
-use Rattle.fm_limit.specs.DirectSystem.{degree, Degree, IsCocycle, IsCoboundary, moved, IsKilledBy, IsZeroInLimit, IsSameInLimit}
-use Rattle.fm_limit.specs.Limit.{mapped, LimitIsZero, VanishesInverting, Annihilates, IsEnough, IsSupportIdeal, InducedMapIsZero, InducedMapIsOneToOne, InducedMapIsOnto}
-use Rattle.fm_limit.proofs.Moves.{Moves, dual, moved_times}
+use Rattle.fm_algebra.proofs.Images.{image_add, image_neg, nil_mul}
+use Rattle.fm_limit.specs.Resolution.{rank_of, d_below, Complex}
+use Rattle.fm_limit.proofs.Resolutions.{IsResolution, IsFrobeniusLift, IsLiftOfIdentity}
+use Rattle.fm_limit.specs.DirectSystem.{degree, Degree, IsCocycle, IsCoboundary, moved, IsKilledBy, IsZeroInLimit}
+use Rattle.fm_limit.specs.Limit.{mapped, LimitIsZero, VanishesInverting, Annihilates, IsEnough, IsSupportIdeal, InducedMapIsZero, InducedMapIsOneToOne, InducedMapIsOnto, IsOntoBy}
+use Rattle.fm_limit.proofs.Moves.{Moves, dual}
 use Rattle.fm_limit.proofs.Maps.{Maps, mapped_coboundary, mapped_cocycle}
 use Rattle.fm_limit.proofs.Homotopy.{lift_moves, lift_maps, identities_differ, upper_square}
-use Rattle.fm_limit.proofs.Independence.{neg_sub, sub_chain, flip_unit, killed_near, zero_near, mapped_killed, mapped_zero, mapped_sub, mapped_same, same_near, same_turned, lift_after, lift_itself, lift_exists}
+use Rattle.fm_limit.proofs.Independence.{IsSameBy, neg_sub, sub_chain, flip_unit, killed_near, zero_near, mapped_killed, mapped_zero, mapped_sub, mapped_same, same_near, same_turned, lift_after, lift_itself, lift_exists}
 
 -- an ideal with a resolution through degree i and a Frobenius lift
 pub record Resolved (M : Matrices) (i : ℕ) : Type 0 where
@@ -151,7 +152,7 @@ module _ {M : Matrices} (L : IsMatrices M) (p : ℕ) (positive : zero < p) (powe
   )
 
   -- ---- induced maps: A and A2 resolve one ideal, B and B2 one that it lies in
-  module _ (A B A2 B2 : Resolved M i) (aa : Inside A A2) (a2 : Inside A2 A) (bb : Inside B B2) (b2 : Inside B2 B) (inside : Inside A B) (k : Family A B) (k2 : Family A2 B2) (kl : IsLift A B k) (kl2 : IsLift A2 B2 k2) where
+  module _ (A B A2 B2 : Resolved M i) (aa : Inside A A2) (a2 : Inside A2 A) (bb : Inside B B2) (b2 : Inside B2 B) (k : Family A B) (k2 : Family A2 B2) (kl : IsLift A B k) (kl2 : IsLift A2 B2 k2) (to_classes : (e : ℕ) (z : Mat (rank_of (B.P).cols i) 1) → IsCocycle M (degree_of B) e z → IsCocycle M (degree_of A) e (carried A B k e z)) where
     up : (l : Family A2 A) × IsLift A2 A l
     up = lift_exists L i A2.P A.P A2.resolves A.resolves a2
 
@@ -180,7 +181,7 @@ module _ {M : Matrices} (L : IsMatrices M) (p : ℕ) (positive : zero < p) (powe
     source_class e z c = carried_class B B2 down.0 down.1 bb e z c
 
     image_class : (e : ℕ) (z : Mat (rank_of (B.P).cols i) 1) → IsCocycle M (degree_of B) e z → IsCocycle M (degree_of A) e (carried A B k e z)
-    image_class e z c = carried_class A B k kl inside e z c
+    image_class e z c = to_classes e z c
 
     pub same_map_zero : InducedMapIsZero M (degree_of B) (degree_of A) (k i) → InducedMapIsZero M (degree_of B2) (degree_of A2) (k2 i)
     same_map_zero f e z c =
@@ -202,23 +203,43 @@ module _ {M : Matrices} (L : IsMatrices M) (p : ℕ) (positive : zero < p) (powe
     same_map_one f e z c h =
         (carried_zero B B2 down.0 down_back.0 down.1 down_back.1 bb e z c).1 (f e (source e z) (source_class e z c) (round_zero e z c h))
 
-    pub same_map_onto : InducedMapIsOnto M (degree_of B) (degree_of A) (k i) → InducedMapIsOnto M (degree_of B2) (degree_of A2) (k2 i)
-    same_map_onto f e z c =
+    -- where a class of the second target is the same as an image by the first lift, it is the same as one by the second
+    carried_same : (s s' e : ℕ) (z : Mat (rank_of (A2.P).cols i) 1) → IsCocycle M (degree_of A2) e z → (e' : ℕ) (x : Mat (rank_of (B.P).cols i) 1) → IsCocycle M (degree_of B) e' x
+        → IsSameBy (degree_of A) s s' e (carried A A2 up_back.0 e z) e' (carried A B k e' x)
+        → IsSameBy (degree_of A2) s s' e z e' (carried A2 B2 k2 e' (carried B2 B down_back.0 e' x))
+    carried_same s s' e z c e' x cx h =
         let y : Mat (rank_of (A.P).cols i) 1 = carried A A2 up_back.0 e z in
-        let r = f e y (carried_class A A2 up_back.0 up_back.1 aa e z c) in
-        let e' : ℕ = r.0 in
-        let x : Mat (rank_of (B.P).cols i) 1 = r.1 in
-        let cx : IsCocycle M (degree_of B) e' x = r.2 in
         let x2 : Mat (rank_of (B2.P).cols i) 1 = carried B2 B down_back.0 e' x in
         let cx2 : IsCocycle M (degree_of B2) e' x2 = carried_class B2 B down_back.0 down_back.1 b2 e' x cx in
         let w1 : Mat (rank_of (A2.P).cols i) 1 = carried A2 A up.0 e' (carried A B k e' x) in
         let w2 : Mat (rank_of (A2.P).cols i) 1 = carried A2 B2 k2 e' x2 in
         let v : Mat (rank_of (A2.P).cols i) 1 = carried A2 A up.0 e' (carried A B k e' (source e' x2)) in
-        let first : IsSameInLimit M (degree_of A2) e (carried A2 A up.0 e y) e' w1 = mapped_same L (moves_of A) (moves_of A2) (maps_of A2 A up.0 up.1) e y e' (carried A B k e' x) (carried_class A A2 up_back.0 up_back.1 aa e z c) (image_class e' x cx) r.3 in
-        let second : IsSameInLimit M (degree_of A2) e z e' w1 = same_near L (moves_of A2) e z (carried A2 A up.0 e y) e' w1 (there_back A A2 up_back.0 up.0 up_back.1 up.1 e z c) first in
+        let first : IsSameBy (degree_of A2) s s' e (carried A2 A up.0 e y) e' w1 = mapped_same L (moves_of A) (moves_of A2) (maps_of A2 A up.0 up.1) s s' e y e' (carried A B k e' x) (carried_class A A2 up_back.0 up_back.1 aa e z c) (image_class e' x cx) h in
+        let second : IsSameBy (degree_of A2) s s' e z e' w1 = same_near L (moves_of A2) s s' e z (carried A2 A up.0 e y) e' w1 (there_back A A2 up_back.0 up.0 up_back.1 up.1 e z c) first in
         let near : IsCoboundary M (degree_of B) e' (x ⊕ neg (source e' x2)) = there_back B2 B down_back.0 down.0 down_back.1 down.1 e' x cx in
         let mid : IsCoboundary M (degree_of A) e' (carried A B k e' x ⊕ neg (carried A B k e' (source e' x2))) = subst (λ u. IsCoboundary M (degree_of A) e' u) (mapped_sub L (moves_of B) (moves_of A) (maps_of A B k kl) e' x (source e' x2)) (mapped_coboundary L (maps_of A B k kl) e' (x ⊕ neg (source e' x2)) near) in
         let far : IsCoboundary M (degree_of A2) e' (w1 ⊕ neg v) = subst (λ u. IsCoboundary M (degree_of A2) e' u) (mapped_sub L (moves_of A) (moves_of A2) (maps_of A2 A up.0 up.1) e' (carried A B k e' x) (carried A B k e' (source e' x2))) (mapped_coboundary L (maps_of A2 A up.0 up.1) e' (carried A B k e' x ⊕ neg (carried A B k e' (source e' x2))) mid) in
         let turned : IsCoboundary M (degree_of A2) e' (v ⊕ neg w1) = subst (λ u. IsCoboundary M (degree_of A2) e' u) (neg_sub L w1 v) (image_neg L (flip (twist e' (d_below M A2.P i))) (w1 ⊕ neg v) far) in
         let last : IsCoboundary M (degree_of A2) e' (w2 ⊕ neg w1) = subst (λ u. IsCoboundary M (degree_of A2) e' u) (sub_chain L w2 v w1) (image_add L (flip (twist e' (d_below M A2.P i))) (w2 ⊕ neg v) (v ⊕ neg w1) (round e' x2 cx2) turned) in
-        (e', x2, cx2, same_turned L (degree_of A2) e' w2 e z (same_near L (moves_of A2) e' w2 w1 e z last (same_turned L (degree_of A2) e z e' w1 second)))
+        same_turned L (degree_of A2) s' s e' w2 e z (same_near L (moves_of A2) s' s e' w2 w1 e z last (same_turned L (degree_of A2) s s' e z e' w1 second))
+
+    pub same_map_onto : InducedMapIsOnto M (degree_of B) (degree_of A) (k i) → InducedMapIsOnto M (degree_of B2) (degree_of A2) (k2 i)
+    same_map_onto f e z c =
+        let r = f e (carried A A2 up_back.0 e z) (carried_class A A2 up_back.0 up_back.1 aa e z c) in
+        let h = r.3 in
+        let q = carried_same h.0 h.1 e z c r.0 r.1 r.2 (h.2, h.3) in
+        (r.0, carried B2 B down_back.0 r.0 r.1, carried_class B2 B down_back.0 down_back.1 b2 r.0 r.1 r.2, (h.0, h.1, q.0, q.1))
+
+    -- the number of moves after which all classes of stage 0 are images is the same
+    pub same_onto_by : (s : ℕ) → IsOntoBy M (degree_of B) (degree_of A) (k i) s → IsOntoBy M (degree_of B2) (degree_of A2) (k2 i) s
+    unfolding moved
+    same_onto_by s f z c =
+        let y : Mat (rank_of (A.P).cols i) 1 = carried A A2 up_back.0 zero z in
+        let r = f y (carried_class A A2 up_back.0 up_back.1 aa zero z c) in
+        let q : s ≡ zero + s = omega arith in
+        let n : zero + s ≡ s + zero = omega arith in
+        let h = carried_same s zero zero z c s r.0 r.1 (n, subst (λ e. IsCoboundary M (degree_of A) e (moved M (degree_of A) s zero y ⊕ neg (carried A B k s r.0))) q r.2) in (
+          carried B2 B down_back.0 s r.0,
+          carried_class B2 B down_back.0 down_back.1 b2 s r.0 r.1,
+          subst (λ e. IsCoboundary M (degree_of A2) e (moved M (degree_of A2) s zero z ⊕ neg (carried A2 B2 k2 s (carried B2 B down_back.0 s r.0)))) (sym q) h.1,
+        )

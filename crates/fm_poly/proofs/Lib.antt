@@ -1,0 +1,16 @@
+pub mod Cutting
+pub mod Decimals
+pub mod PrintedFactors
+pub mod PrintedPolys
+pub mod PrintingSteps
+pub mod OrderedTerms
+pub mod MergeSteps
+pub mod CollectSteps
+pub mod SeenValues
+pub mod ProductSteps
+pub mod BoundSteps
+pub mod PowerSteps
+pub mod TwistSteps
+pub mod KeptTerms
+pub mod PieceSteps
+pub mod SpellingSteps
