@@ -3,6 +3,7 @@ use Rattle.std.proofs.Common.{ℕ, zero, suc, ◌+◌, ◌≡◌, ◌∙◌, ◌
 use Rattle.fm_gfp.specs.declared.prime.Prime.{Prime}
 use Rattle.fm_algebra.specs.Families.{mul, beside, each, read, vector}
 use Rattle.fm_algebra.specs.Image as image
+use Rattle.fm_algebra.proofs.Generation as generation
 use Rattle.fm_algebra.specs.Polynomials.{Polynomial, polynomials, frobenius_twist}
 use Rattle.fm_algebra.specs.PolynomialMatrices.{PolynomialMatrix, HasShape, matrix_product, matrix_beside, matrix_twist, vector_product, InImage}
 use Rattle.fm_algebra.proofs.Images.{columns_within}
@@ -18,7 +19,7 @@ use Rattle.fm_limit.proofs.FactsRead.{matrices_laws, matrices_flat, product_read
 use Rattle.fm_limit.proofs.InducedFacts.{beside_read, beside_fits, maps_read, square_read, target_fits, lambda}
 
 module _ (p : Prime) (n : ℕ) where
-  product_fits : (a b c : ℕ) (A B : PolynomialMatrix p n) → HasShape p n a b A → HasShape p n b c B → HasShape p n a c (matrix_product p n A B)
+  pub product_fits : (a b c : ℕ) (A B : PolynomialMatrix p n) → HasShape p n a b A → HasShape p n b c B → HasShape p n a c (matrix_product p n A B)
   unfolding HasShape matrix_product
   product_fits a b c A B s t = product_shaped (polynomials p n) a c A B s.0 t.1
 
@@ -44,7 +45,7 @@ module _ (p : Prime) (n : ℕ) where
     whole_read : Chain (matrices p n) g u (λ s. length (K s).columns) k
     whole_read = record {
       begins = subst (λ X. image.InImage (matrices p n) X (mul (polynomials p n) u (k zero))) (twist_read p n 1 g (length (K zero).columns) (K zero) (C.fits zero)) (subst (λ X. image.InImage (matrices p n) (read (polynomials p n) g (length (K zero).columns) (matrix_twist p n 1 (K zero))) X) (product_read p n g g (length (K zero).columns) U (K zero) C.square (C.fits zero)) ((columns_from p n g (length (K zero).columns) (length (K zero).columns) (matrix_twist p n 1 (K zero)) (matrix_product p n U (K zero)) (twist_fits p n 1 g (length (K zero).columns) (K zero) (C.fits zero)) (product_fits g g (length (K zero).columns) U (K zero) C.square (C.fits zero))).0 C.begins));
-      step = λ s. subst (λ X. image.Generates (matrices p n) (k (suc s)) u X) (twist_read p n 1 g (length (K s).columns) (K s) (C.fits s)) (preimage_from p n g g (length (K s).columns) (length (K (suc s)).columns) (K (suc s)) U (matrix_twist p n 1 (K s)) C.square (twist_fits p n 1 g (length (K s).columns) (K s) (C.fits s)) (C.fits (suc s)) (C.step s));
+      step = λ s. subst (λ X. generation.Generates (matrices p n) (k (suc s)) u X) (twist_read p n 1 g (length (K s).columns) (K s) (C.fits s)) (preimage_from p n g g (length (K s).columns) (length (K (suc s)).columns) (K (suc s)) U (matrix_twist p n 1 (K s)) C.square (twist_fits p n 1 g (length (K s).columns) (K s) (C.fits s)) (C.fits (suc s)) (C.step s));
     }
 
     -- the chain rises
@@ -54,7 +55,7 @@ module _ (p : Prime) (n : ℕ) where
         (vector_member g (length (K (suc s)).columns) (K (suc s)) v (C.fits (suc s)) l).1 (rising (matrices_laws p n) whole_read s (vector (polynomials p n) g v) ((vector_member g (length (K s).columns) (K s) v (C.fits s) l).0 h))
 
     module _ (t : ℕ) (rep : ColumnsInImage p n (K t) (K (suc t))) where
-      same : image.SameImage (matrices p n) (k t) (k (suc t))
+      same : generation.SameImage (matrices p n) (k t) (k (suc t))
       same v = (
         rising (matrices_laws p n) whole_read t v,
         columns_within (matrices_laws p n) (k t) (k (suc t)) ((columns_from p n g (length (K t).columns) (length (K (suc t)).columns) (K t) (K (suc t)) (C.fits t) (C.fits (suc t))).0 rep) v,

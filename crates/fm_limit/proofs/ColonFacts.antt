@@ -2,7 +2,8 @@
 use Rattle.std.proofs.Common.{ℕ, zero, suc, ◌+◌, ◌<◌, ◌≤◌, ◌≡◌, ◌∙◌, ◌↔◌, ap, subst, arith, List, length}
 use Rattle.fm_gfp.specs.declared.prime.Prime.{Prime}
 use Rattle.fm_algebra.specs.Families.{Mat, mul, each, scalar, read, vector, element}
-use Rattle.fm_algebra.specs.Image.{InImage, SameImage, Generates, pow}
+use Rattle.fm_algebra.specs.Image.{InImage, pow}
+use Rattle.fm_algebra.proofs.Generation.{SameImage, Generates}
 use Rattle.fm_algebra.specs.Polynomials.{Polynomial, polynomials, polynomial_power, frobenius_twist}
 use Rattle.fm_algebra.specs.PolynomialMatrices as words
 use Rattle.fm_algebra.specs.PolynomialMatrices.{PolynomialMatrix, HasShape, matrix_scalar, matrix_twist, vector_product}

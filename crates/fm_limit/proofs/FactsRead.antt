@@ -6,7 +6,8 @@ use Rattle.fm_gfp.specs.declared.prime.Prime.{Prime}
 use Rattle.fm_algebra.specs.Matrices.{IsMatrices}
 use Rattle.fm_algebra.specs.Matrix.{IsShaped, column_matrix, InListImage}
 use Rattle.fm_algebra.specs.Families.{mul, unit, flip, each, read}
-use Rattle.fm_algebra.specs.Image.{Flat, IsPower, InImage, Generates, GeneratesKernel, SameImage}
+use Rattle.fm_algebra.specs.Image.{InImage}
+use Rattle.fm_algebra.proofs.Generation.{Flat, IsPower, Generates, GeneratesKernel, SameImage}
 use Rattle.fm_algebra.specs.Polynomials.{Polynomial, polynomials, polynomial_power, frobenius_twist}
 use Rattle.fm_algebra.specs.PolynomialMatrices as words
 use Rattle.fm_algebra.specs.PolynomialMatrices.{PolynomialMatrix, HasShape, matrix_product, matrix_zero, matrix_unit, matrix_transpose, matrix_column, matrix_twist, InKernel, InPreimage}

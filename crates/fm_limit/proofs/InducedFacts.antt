@@ -2,7 +2,8 @@
 use Rattle.std.proofs.Common.{ℕ, zero, suc, ◌+◌, ◌<◌, ◌≤◌, ◌≡◌, ◌∙◌, ◌↔◌, min, sym, ap, subst, arith, List, length}
 use Rattle.fm_gfp.specs.declared.prime.Prime.{Prime}
 use Rattle.fm_algebra.specs.Families.{mul, flip, beside, each, read}
-use Rattle.fm_algebra.specs.Image.{InImage, Everything, SameImage, Generates}
+use Rattle.fm_algebra.specs.Image.{InImage}
+use Rattle.fm_algebra.proofs.Generation.{Everything, SameImage, Generates}
 use Rattle.fm_algebra.specs.Polynomials.{polynomials, frobenius_twist}
 use Rattle.fm_algebra.specs.PolynomialMatrices as words
 use Rattle.fm_algebra.specs.PolynomialMatrices.{PolynomialMatrix, HasShape, matrix_beside, matrix_transpose}

@@ -18,3 +18,5 @@ pub mod IndependenceWords
 pub mod HomotopyWords
 pub mod ChainWords
 pub mod TwistedResolution
+pub mod SmallIdeals
+pub mod Principal

@@ -1,7 +1,8 @@
 -- Ideals with resolutions and lifts: what is said of the limit does not depend on them
 use Rattle.std.proofs.Common.{ℕ, zero, ◌+◌, ◌<◌, ◌≡◌, ◌↔◌, ◌∙◌, sym, ap, subst, arith}
 use Rattle.fm_algebra.specs.Matrices.{Matrices, IsMatrices}
-use Rattle.fm_algebra.specs.Image.{InImage, IsPower, pow}
+use Rattle.fm_algebra.specs.Image.{InImage, pow}
+use Rattle.fm_algebra.proofs.Generation.{IsPower}
 use Rattle.fm_algebra.proofs.Images.{image_add, image_neg, nil_mul}
 use Rattle.fm_limit.specs.Resolution.{rank_of, d_below, Complex}
 use Rattle.fm_limit.proofs.Resolutions.{IsResolution, IsFrobeniusLift, IsLiftOfIdentity}

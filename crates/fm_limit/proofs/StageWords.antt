@@ -24,17 +24,17 @@ module _ (p : Prime) (n : ℕ) where
   dual_read e a b A s =
       transpose_read p n a b (matrix_twist p n e A) (twist_fits p n e a b A s) ∙ ap (flip (polynomials p n) {m = a} {n = b}) (twist_read p n e a b A s)
 
-  kernel_words : (a b : ℕ) (A : PolynomialMatrix p n) (w : List (Polynomial p n)) → HasShape p n a b A → length w ≡ b
+  pub kernel_words : (a b : ℕ) (A : PolynomialMatrix p n) (w : List (Polynomial p n)) → HasShape p n a b A → length w ≡ b
       → InKernel p n A w ↔ image.InKernel (matrices p n) (read (polynomials p n) a b A) (vector (polynomials p n) b w)
   unfolding InKernel HasShape
   kernel_words a b A w s l = list_kernel (polynomials p n) (frobenius_twist p n) a b A w s.0 s.1 l
 
-  image_words : (a b : ℕ) (A : PolynomialMatrix p n) (v : List (Polynomial p n)) → HasShape p n a b A → length v ≡ a
+  pub image_words : (a b : ℕ) (A : PolynomialMatrix p n) (v : List (Polynomial p n)) → HasShape p n a b A → length v ≡ a
       → InImage p n A v ↔ image.InImage (matrices p n) (read (polynomials p n) a b A) (vector (polynomials p n) a v)
   unfolding InImage HasShape
   image_words a b A v s l = list_image (polynomials p n) (frobenius_twist p n) a b A v s.0 s.1 l
 
-  kernel_length : (a b : ℕ) (A : PolynomialMatrix p n) (w : List (Polynomial p n)) → HasShape p n a b A → InKernel p n A w → length w ≡ b
+  pub kernel_length : (a b : ℕ) (A : PolynomialMatrix p n) (w : List (Polynomial p n)) → HasShape p n a b A → InKernel p n A w → length w ≡ b
   unfolding InKernel HasShape
   kernel_length a b A w s h = h.0 ∙ s.1
 

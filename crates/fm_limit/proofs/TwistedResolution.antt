@@ -25,7 +25,7 @@ module _ (p : Prime) (n e : ℕ) where
   twists ds = map (matrix_twist p n e) ds
 
   -- the row of the powers is the twist of the row
-  row_read : (fs : List (Polynomial p n)) → read (polynomials p n) 1 (length fs) (row p n fs) ≡ flip (polynomials p n) (vector (polynomials p n) (length fs) fs)
+  pub row_read : (fs : List (Polynomial p n)) → read (polynomials p n) 1 (length fs) (row p n fs) ≡ flip (polynomials p n) (vector (polynomials p n) (length fs) fs)
   unfolding row matrix_transpose matrix_column
   row_read fs =
       let c = column_shaped (polynomials p n) (length fs) fs refl in

@@ -5,3 +5,4 @@ pub mod ResolvedIdeal
 pub mod Classes
 pub mod Facts
 pub mod Verdicts
+pub mod SmallIdeals
