@@ -66,7 +66,7 @@ module _ {R : List ℕ → List ℕ → Ordering} (o : IsMonomialOrder R) where
   respects_left v b a l m = ap₂ R (tuple_sum_comm a v (sym l)) (tuple_sum_comm a b (sym m)) ∙ o.respects v b a l m
 
   -- u + v against a + b, where neither part is greater
-  sums_less : (u a v b : List ℕ) → length u ≡ length v → length a ≡ length v → length b ≡ length v
+  pub sums_less : (u a v b : List ℕ) → length u ≡ length v → length a ≡ length v → length b ≡ length v
       → R u a ≡ Less → (s : Ordering) → R v b ≡ s → ¬ (s ≡ Greater) → R (tuple_sum u v) (tuple_sum a b) ≡ Less
   sums_less u a v b l m k e Less f w =
       o.total.trans (tuple_sum u v) (tuple_sum a v) (tuple_sum a b) (o.respects u a v l m ∙ e) (respects_left v b a (sym m) (k ∙ sym m) ∙ f)

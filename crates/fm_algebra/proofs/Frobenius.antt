@@ -25,7 +25,7 @@ use Rattle.fm_algebra.proofs.Twist.{coeff_twist, twisted_at, twisted_multiple}
 use Rattle.fm_algebra.proofs.Monomial.{poly_induction, coeff_monomial, coeff_monomial_at, monomial_mul, single_same, single_other}
 use Rattle.fm_algebra.proofs.Binomial.{power_sum, power_power, power_zero}
 
-multiple_next : (k : ℕ) (a : List ℕ) → tuple_sum a (tuple_multiple k a) ≡ tuple_multiple (suc k) a
+pub multiple_next : (k : ℕ) (a : List ℕ) → tuple_sum a (tuple_multiple k a) ≡ tuple_multiple (suc k) a
 multiple_next k [] = refl
 multiple_next k (i ∷ a) =
     let head : i + k * i ≡ suc k * i = omega arith in

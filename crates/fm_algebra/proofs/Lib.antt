@@ -29,3 +29,9 @@ pub mod Twist
 pub mod PolynomialWords
 pub mod TermWords
 pub mod TwistWords
+pub mod FallingTerms
+pub mod HeadTwist
+pub mod HeadWords
+pub mod SplitWords
+pub mod SliceSum
+pub mod WorkedExamples

@@ -132,7 +132,7 @@ module _ (p : Prime) (n : ℕ) where
     unfolding coefficient frobenius_slice
     slice_coefficient a b f l w m = ap (λ c. c.number) (coeff_slice (gf p) (gf_is_zero p) n (prime_value p ^ e) a f l w b m)
 
-    abbrev digits : (a : List ℕ) → length a ≡ n → AllBelow (prime_value p ^ e) a → Digits n (prime_value p ^ e)
+    abbrev pub digits : (a : List ℕ) → length a ≡ n → AllBelow (prime_value p ^ e) a → Digits n (prime_value p ^ e)
     digits a l w = record { tuple = a; fits = l; below = w }
 
     pub slice_of_sum : (a : List ℕ) (f g : Polynomial p n) → length a ≡ n → AllBelow (prime_value p ^ e) a

@@ -43,6 +43,10 @@ module _ (p : Prime) (n : ℕ) where
   unfoldable pub polynomial_negative : Polynomial p n → Polynomial p n
   polynomial_negative f = (polynomials p n).neg f
 
+  -- f - g
+  unfoldable pub polynomial_difference : Polynomial p n → Polynomial p n → Polynomial p n
+  polynomial_difference f g = polynomial_sum f (polynomial_negative g)
+
   -- c * f, for a number c modulo p
   unfoldable pub polynomial_multiple : ℕ → Polynomial p n → Polynomial p n
   polynomial_multiple c f = multiple (gf p) (gf_is_zero p) n (residue (prime_value p) (prime_positive p) c) f
@@ -81,6 +85,11 @@ module _ (p : Prime) (n : ℕ) where
   abbrev pub AreListedTerms : List (List ℕ × ℕ) → Type 0
   AreListedTerms [] = Unit {0}
   AreListedTerms (t ∷ ts) = (length t.0 ≡ n) × (0 < t.1) × (t.1 < prime_value p) × AreListedTerms ts
+
+-- every tuple of a list of terms has n exponents
+abbrev pub AllFit : ℕ → List (List ℕ × ℕ) → Type 0
+AllFit n [] = Unit {0}
+AllFit n (t ∷ ts) = (length t.0 ≡ n) × AllFit n ts
 
 -- the sum of the coefficients that stand at the exponents a in a list of terms
 abbrev pub listed_coefficient : List (List ℕ × ℕ) → List ℕ → ℕ

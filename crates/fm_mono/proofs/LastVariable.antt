@@ -5,15 +5,11 @@ use Rattle.std.specs.Ordering.{nat_cmp, flip_args, ordering_then}
 use Rattle.std.specs.Cmp.Lexicographic.{slice_cmp}
 use Rattle.std.specs.FinMap.{nat_cmp-IsAntisymmetric}
 use Rattle.std.specs.declared.cmp.Ordering.{Ordering}
-use Rattle.std.specs.declared.cmp.Ordering.TheVariants.{Less, Equal, Greater}
+use Rattle.std.specs.declared.cmp.Ordering.TheVariants.{Equal}
 use Rattle.std.proofs.lemmas.Cmp.{nat_cmp_total, tied_itself}
 use Rattle.std.proofs.lemmas.Grind.{same_number_lists}
 use Rattle.fm_mono.specs.Orders.{last_cmp}
-
-decided : (r s : Ordering) → (r ≡ Equal → ⊥) → ordering_then r s ≡ r
-decided Less s differ = refl
-decided Equal s differ = absurd (differ refl)
-decided Greater s differ = refl
+use Rattle.fm_mono.proofs.FirstVariable.{decided}
 
 same_entries : (a b : List ℕ) → length b ≡ length a → ((j : ℕ) → get_or a j 0 ≡ get_or b j 0) → a ≡ b
 same_entries a b l same = same_number_lists a b (sym l) (λ k below. same k)

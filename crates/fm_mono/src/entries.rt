@@ -1,17 +1,22 @@
 // The loops over the exponents of monomials.
-ghost use Rattle.std.specs.Prelude.{IsTrue, length, min, sum, true, ◌+◌, ◌^◌, ◌↔◌, ◌≡◌, ◌≤◌};
+ghost use Rattle.std.specs.Prelude.{IsTrue, length, min, slice_index, sum, true, ℕ, ◌+◌, ◌^◌, ◌↔◌, ◌≡◌, ◌≤◌};
 ghost use Rattle.fm_tuple.specs.Tuple.{TupleDivides, tuple_difference, tuple_maximum, tuple_multiple, tuple_sum};
 ghost use Rattle.fm_mono.specs.Bounded.{is_bounded};
-ghost use Rattle.fm_mono.specs.Orders.{last_cmp};
+ghost use Rattle.fm_mono.specs.Orders.{first_cmp, last_cmp};
 
 use crate::exponent::{EXPONENT_BOUND, Exponent};
 use std::cmp::Ordering;
 
 pub fn total(a: &[Exponent]) -> u32
-    requires { length a.now ≤ 8 }
+    requires few { length a.now ≤ 8 }
+    requires within { is_bounded a.now ≡ true }
     ensures { result ≡ sum a.now }
 {
-    a.iter().map(|x| u32::from(*x)).sum()
+    let mut sum = 0;
+    for k in 0..a.len() {
+        sum += u32::from(a[k]);
+    }
+    sum
 }
 
 // Writes the sums, and says whether all are within the bound.
@@ -31,6 +36,18 @@ pub fn add_each(a: &[Exponent], b: &[Exponent], out: &mut [Exponent]) -> bool
         out[k] = sum as Exponent;
     }
     true
+}
+
+// The sums, where all are within the bound. The loop over all eight places is one vector instruction.
+pub fn add_all(a: &[Exponent; 8], b: &[Exponent; 8]) -> [Exponent; 8]
+    requires { (k : ℕ) → slice_index a.now k + slice_index b.now k ≤ EXPONENT_BOUND }
+    ensures { result ≡ tuple_sum a.now b.now }
+{
+    let mut sums = [0; 8];
+    for k in 0..8 {
+        sums[k] = a[k] + b[k];
+    }
+    sums
 }
 
 pub fn divides_each(a: &[Exponent], b: &[Exponent]) -> bool
@@ -94,6 +111,19 @@ pub fn capped_power(p: u8, e: u8) -> u32
         power = (power * u32::from(p)).min(cap);
     }
     power
+}
+
+// From the first entry on, the greater exponent being greater.
+pub fn compare_first(a: &[Exponent], b: &[Exponent]) -> Ordering
+    requires { length b.now ≡ length a.now }
+    ensures { result ≡ first_cmp a.now b.now }
+{
+    for k in 0..a.len() {
+        if a[k] != b[k] {
+            return a[k].cmp(&b[k]);
+        }
+    }
+    Ordering::Equal
 }
 
 // From the last entry on, the smaller exponent being greater.

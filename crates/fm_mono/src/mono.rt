@@ -1,12 +1,13 @@
 // Monomials.
-ghost use Rattle.std.specs.Prelude.{IsTrue, length, replicate, slice_index, sum, true, ◌<◌, ◌^◌, ◌↔◌, ◌≡◌, ◌≤◌};
+ghost use Rattle.std.specs.Prelude.{IsTrue, length, replicate, slice_index, sum, true, ◌+◌, ◌<◌, ◌^◌, ◌↔◌, ◌≡◌, ◌≤◌};
 ghost use Rattle.fm_tuple.specs.Tuple.{TupleDivides, tuple_difference, tuple_maximum, tuple_multiple, tuple_sum};
 ghost use Rattle.fm_mono.specs.Bounded.{bounded, is_bounded};
 
 use crate::entries::{
-    add_each, capped_power, divides_each, maximum_each, multiply_each, subtract_each, total,
+    add_all, add_each, capped_power, divides_each, maximum_each, multiply_each, subtract_each,
+    total,
 };
-use crate::exponent::Exponent;
+use crate::exponent::{EXPONENT_BOUND, Exponent};
 use std::marker::Model;
 
 /// A monomial in one to eight variables. Contracts see it as the list of its exponents.
@@ -60,6 +61,7 @@ impl Mono {
     }
 
     /// The number of variables.
+    #[inline]
     pub fn vars(self) -> u8
         ensures exact { result ≡ length self }
         ensures some { 1 ≤ result }
@@ -69,12 +71,14 @@ impl Mono {
     }
 
     /// The total degree.
+    #[inline]
     pub fn degree(self) -> u32
         ensures { result ≡ sum self }
     {
         self.degree
     }
 
+    #[inline]
     pub fn exponent(self, k: u8) -> Exponent
         requires { k < length self }
         ensures { result ≡ slice_index self k }
@@ -82,6 +86,7 @@ impl Mono {
         self.exponents[usize::from(k)]
     }
 
+    #[inline]
     pub fn exponents(&self) -> &[Exponent]
         ensures same { result.now ≡ self.now }
         ensures some { 1 ≤ length self.now }
@@ -92,9 +97,38 @@ impl Mono {
     }
 
     /// The product, where no exponent of it passes the bound.
+    #[inline]
     pub fn times(self, b: Mono) -> Option<Mono>
         requires { length self ≡ length b }
         ensures { result ≡ bounded (tuple_sum self b) }
+    {
+        if self.degree + b.degree <= u32::from(EXPONENT_BOUND) {
+            return Some(self.times_small(&b));
+        }
+        self.times_tested(&b)
+    }
+
+    // The product, where its total degree is within the bound.
+    #[inline]
+    fn times_small(&self, b: &Mono) -> Mono
+        requires same { length self.now ≡ length b.now }
+        requires small { sum self.now + sum b.now ≤ EXPONENT_BOUND }
+        ensures exact { result ≡ tuple_sum self.now b.now }
+        ensures within { is_bounded (tuple_sum self.now b.now) ≡ true }
+    {
+        Mono {
+            exponents: add_all(&self.exponents, &b.exponents),
+            degree: self.degree + b.degree,
+            vars: self.vars,
+        }
+    }
+
+    // The product, with a test of each exponent.
+    #[cold]
+    #[inline(never)]
+    fn times_tested(&self, b: &Mono) -> Option<Mono>
+        requires { length self.now ≡ length b.now }
+        ensures { result ≡ bounded (tuple_sum self.now b.now) }
     {
         let mut all = [0; 8];
         if !add_each(
@@ -111,6 +145,7 @@ impl Mono {
         })
     }
 
+    #[inline]
     pub fn divides(self, b: Mono) -> bool
         requires { length self ≡ length b }
         ensures { IsTrue result ↔ TupleDivides self b }

@@ -2,7 +2,7 @@
 ghost use Rattle.std.specs.Prelude.{length, ◌≡◌};
 ghost use Rattle.fm_mono.specs.Orders.{monomial_cmp};
 
-use crate::entries::compare_last;
+use crate::entries::{compare_first, compare_last};
 use crate::mono::Mono;
 use std::cmp::Ordering;
 
@@ -15,6 +15,7 @@ pub enum Order {
 }
 
 impl Order {
+    #[inline]
     pub fn compare(self, a: Mono, b: Mono) -> Ordering
         requires { length a ≡ length b }
         ensures { result ≡ monomial_cmp self a b }
@@ -22,11 +23,12 @@ impl Order {
         match self {
             Order::Grevlex => compare_grevlex(&a, &b),
             Order::Deglex => compare_deglex(&a, &b),
-            Order::Lex => a.exponents().cmp(b.exponents()),
+            Order::Lex => compare_first(a.exponents(), b.exponents()),
         }
     }
 }
 
+#[inline]
 fn compare_grevlex(a: &Mono, b: &Mono) -> Ordering
     requires { length a.now ≡ length b.now }
     ensures { result ≡ monomial_cmp Order.Grevlex a.now b.now }
@@ -37,12 +39,13 @@ fn compare_grevlex(a: &Mono, b: &Mono) -> Ordering
     }
 }
 
+#[inline]
 fn compare_deglex(a: &Mono, b: &Mono) -> Ordering
     requires { length a.now ≡ length b.now }
     ensures { result ≡ monomial_cmp Order.Deglex a.now b.now }
 {
     match a.degree().cmp(&b.degree()) {
-        Ordering::Equal => a.exponents().cmp(b.exponents()),
+        Ordering::Equal => compare_first(a.exponents(), b.exponents()),
         decided => decided,
     }
 }

@@ -1,5 +1,5 @@
 -- Exponent tuples by their entries, their total degrees, and read from the last variable on
-use Rattle.std.proofs.Common.{ℕ, zero, suc, ◌+◌, ◌*◌, ◌≤◌, ◌<◌, ◌≡◌, List, [], ◌∷◌, length, replicate, sum, map, reverse, refl, sym, ap, ap₂, ◌∙◌, arith, get_or, subst, ◌-◌}
+use Rattle.std.proofs.Common.{ℕ, zero, suc, ◌+◌, ◌*◌, ◌≤◌, ◌<◌, ◌≡◌, List, [], ◌∷◌, length, replicate, sum, map, reverse, refl, sym, ap, ap₂, ◌∙◌, arith, get_or, subst, ◌-◌, ◌++◌}
 use mathlib.Core.List.{reverse_aux}
 use Rattle.std.proofs.lemmas.List.{length-map}
 use Rattle.std.proofs.lemmas.Grind.{same_number_lists}
@@ -134,3 +134,14 @@ sum_tuple_difference a b l divides =
     let parts : sum (tuple_sum b (tuple_difference a b)) ≡ sum b + sum (tuple_difference a b) = sum_tuple_sum b (tuple_difference a b) same in
     let total : sum (tuple_sum b (tuple_difference a b)) ≡ sum a = ap sum whole in
     omega arith
+
+-- ---- tuples with zeros behind them
+pub entrywise_append : (f : ℕ → ℕ → ℕ) (a b x y : List ℕ) → length b ≡ length a → entrywise f (a ++ x) (b ++ y) ≡ entrywise f a b ++ entrywise f x y
+entrywise_append f [] [] x y l = refl
+entrywise_append f [] (j ∷ b) x y l = absurd (omega arith)
+entrywise_append f (i ∷ a) [] x y l = absurd (omega arith)
+entrywise_append f (i ∷ a) (j ∷ b) x y l = ap (λ z. f i j ∷ z) (entrywise_append f a b x y (omega arith))
+
+pub entrywise_zeros : (f : ℕ → ℕ → ℕ) → f 0 0 ≡ 0 → (n : ℕ) → entrywise f (replicate n 0) (replicate n 0) ≡ replicate n 0
+entrywise_zeros f none zero = refl
+entrywise_zeros f none (suc n) = ap₂ (λ x y. x ∷ y) none (entrywise_zeros f none n)

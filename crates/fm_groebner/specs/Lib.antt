@@ -1,0 +1,4 @@
+pub mod Terms
+pub mod Bases
+pub mod Logs
+pub mod Graphs

@@ -1,0 +1,5 @@
+// Laws of Gröbner bases of submodules of free modules over GF(p)[x1..xn].
+pub mod bases;
+pub mod graphs;
+pub mod logs;
+pub mod terms;

@@ -1,0 +1,7 @@
+// The laws of the limit.
+
+pub mod chains;
+pub mod homotopy;
+pub mod independence;
+pub mod stages;
+pub mod verdicts;
