@@ -18,9 +18,9 @@ use Rattle.fm_limit.specs.Limit.{mapped}
 use Rattle.fm_limit.specs.ResolvedIdeal.{ResolvedIdeal, matrix_at, row, InIdeal, LiesIn, IsResolved, IsLiftOfIdentityOf}
 use Rattle.fm_limit.specs.Classes.{matrices, complex_of, theta_of, lambda_of, degree_in, length_in, vector_in, image_of, IsClass, IsCoboundaryAfter, IsZeroClass, IsSameClass, IsZeroLimit, VanishesAfterInverting, AnnihilatesClasses, IsEnoughMoves, IsSupportIdealOf, IsZeroMap, IsOneToOneMap, IsOntoMap, IsOntoAfter}
 use Rattle.fm_limit.specs.Verdicts.{IsLeast, zero_limit, inverting, support, Holds}
-use Rattle.fm_limit.proofs.FactsRead.{matrices_laws, matrices_power, row_fits, resolution_read, frobenius_read, identity_read}
-use Rattle.fm_limit.proofs.StageWords.{dual_fits, dual_read}
+use Rattle.fm_limit.proofs.FactsRead.{matrices_laws, matrices_power, resolution_read, frobenius_read, identity_read}
 use Rattle.fm_limit.proofs.Resolved.{Resolved, Inside, carried_class, carried_killed, carried_zero, carried_onto, same_zero, same_vanishing, same_annihilators, same_enough, same_support, same_map_zero, same_map_one, same_map_onto, same_onto_by}
+use Rattle.fm_limit.proofs.MatrixWords.{dual_fits, dual_read, row_fits}
 
 module _ (p : Prime) (n : ℕ) where
   -- an ideal with its resolution and its lift, as the theory has it
