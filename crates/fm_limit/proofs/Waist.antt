@@ -105,9 +105,12 @@ module _ (p : Prime) (n : ℕ) where
 
     -- ---- roots
     pub root_fact : IsRootOf p n i I Z S U
-    unfolding IsRootOf
-    root_fact =
-        at_stable (λ k A. IsRoot (matrices p n) (degree_in p n i I) g k (read (polynomials p n) (length_in p n i I) g Z) A (read (polynomials p n) g g U)) (is_root (matrices_laws p n) (matrices_flat p n) (moves_read p n X.resolved) (facts_read p n X))
+    root_fact = record {
+      generators_fit = (X.ext).cocycles_fit;
+      kernel_fits = stable_fits;
+      morphism_fits = (X.ext).morphism_fits;
+      root = at_stable (λ k A. IsRoot (matrices p n) (degree_in p n i I) g k (read (polynomials p n) (length_in p n i I) g Z) A (read (polynomials p n) g g U)) (is_root (matrices_laws p n) (matrices_flat p n) (moves_read p n X.resolved) (facts_read p n X));
+    }
 
     -- ---- annihilators, inverting, support
     pub annihilates_fact : (a : Polynomial p n) → ColumnsInImage p n S (matrix_scalar p n a S.rows) ↔ AnnihilatesClasses p n i I a
