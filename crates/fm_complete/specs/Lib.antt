@@ -1,0 +1,4 @@
+pub mod Runs
+pub mod Divisors
+pub mod Reductions
+pub mod Divisions

@@ -1,0 +1,9 @@
+// Vectors of polynomials over GF(p) as falling lists of terms.
+#![tactic(auto)]
+
+pub(crate) mod multiples;
+pub mod vector;
+pub mod vterm;
+
+pub use vector::Vector;
+pub use vterm::VTerm;
