@@ -1,5 +1,5 @@
 -- The order of the terms of a vector: position over term (Cox, Little and O'Shea, Using Algebraic Geometry, chapter 5, section 2).
-use Rattle.std.specs.Prelude.{ℕ, ◌≡◌, List, [], ◌∷◌}
+use Rattle.std.specs.Prelude.{◌≡◌, List, [], ◌∷◌}
 use Rattle.std.specs.Ordering.{nat_cmp, then_cmp, on, flip_args}
 use Rattle.std.specs.declared.cmp.Ordering.{Ordering}
 use Rattle.std.specs.declared.cmp.Ordering.TheVariants.{Less}

@@ -32,6 +32,12 @@ pub record IsVector (r : Ring) (n : ℕ) (ts : List VTerm) : Type 0 where
   pub proper : AreTerms r ts
   pub within : AreWithin n ts
 
+-- both are monic, with heads in one component
+abbrev pub HaveSVector : List VTerm → List VTerm → Type 0
+HaveSVector [] g = ⊥
+HaveSVector (t ∷ ts) [] = ⊥
+HaveSVector (t ∷ ts) (u ∷ us) = (t.coeff ≡ 1) × (u.coeff ≡ 1) × (t.component ≡ u.component)
+
 -- the head, the greatest term
 abbrev pub head_of : List VTerm → Option VTerm
 head_of [] = None

@@ -2,6 +2,7 @@
 #![tactic(auto)]
 
 pub(crate) mod multiples;
+pub(crate) mod terms;
 pub mod vector;
 pub mod vterm;
 
