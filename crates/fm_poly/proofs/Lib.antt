@@ -1,0 +1,9 @@
+pub mod OrderedTerms
+pub mod MergeSteps
+pub mod CollectSteps
+pub mod SeenValues
+pub mod ProductSteps
+pub mod BoundSteps
+pub mod PowerSteps
+pub mod TwistSteps
+pub mod KeptTerms
