@@ -2,3 +2,4 @@ pub mod Runs
 pub mod Divisors
 pub mod Reductions
 pub mod Divisions
+pub mod Trails
