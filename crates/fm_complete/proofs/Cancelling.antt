@@ -1,19 +1,18 @@
 -- A head reduction cancels the head: what it leaves is below it
-use Rattle.std.proofs.Common.{ℕ, ◌+◌, ◌-◌, ◌*◌, ◌%◌, ◌==◌, ◌<◌, ◌≡◌, if◌then◌else◌, Bool, true, List, [], ◌∷◌, ◌++◌, length, refl, sym, ap, ap₂, ◌∙◌, subst, arith, eq-eqb, mod-eq_of_lt}
+use Rattle.std.proofs.Common.{ℕ, ◌+◌, ◌-◌, ◌*◌, ◌%◌, ◌==◌, ◌<◌, ◌≡◌, if◌then◌else◌, true, List, [], ◌∷◌, ◌++◌, length, refl, sym, ap, ap₂, ◌∙◌, subst, arith}
 use Rattle.std.proofs.Math.Nat.{mod-lt, add-mod, mul-mod_right, add-mod-mod}
 use Rattle.std.proofs.lemmas.Nat.{mul-mod_first, mul-mod_second}
 use Rattle.std.specs.Ordering.{nat_cmp, ordering_then, ordering_reverse}
 use Rattle.std.specs.Cmp.{tied_itself}
-use Rattle.std.specs.declared.cmp.Ordering.TheVariants.{Less, Equal, Greater}
+use Rattle.std.specs.declared.cmp.Ordering.TheVariants.{Equal}
 use Rattle.fm_tuple.specs.Tuple.{tuple_sum}
 use Rattle.fm_tuple.proofs.TupleEntries.{length_entrywise}
 use Rattle.fm_gfp.specs.Primes.{prime_value}
-use Rattle.fm_gfp.specs.declared.prime.Prime.{Prime}
-use Rattle.fm_gfp.proofs.Residues.{prime_positive, prime_above_one, inverse_exists, inverse_positive}
+use Rattle.fm_gfp.proofs.Residues.{prime_positive, inverse_exists, inverse_positive}
 use Rattle.fm_mono.specs.Orders.{monomial_cmp}
 use Rattle.fm_poly.specs.declared.ring.Ring.{Ring}
 use Rattle.fm_vec.specs.declared.vterm.VTerm.{VTerm}
-use Rattle.fm_vec.specs.Places.{place_cmp, AllBelow, Falls}
+use Rattle.fm_vec.specs.Places.{place_cmp, AllBelow}
 use Rattle.fm_vec.specs.Vectors.{IsTerm, AreTerms, IsVector}
 use Rattle.fm_vec.specs.Multiples.{negated, inverse_of, sum_term, put, times_term, multiple, plus_multiple}
 use Rattle.fm_vec.proofs.Places.{place_total}

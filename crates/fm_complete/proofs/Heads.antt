@@ -1,5 +1,6 @@
 -- The test of divisibility, and what a found step is
-use Rattle.std.proofs.Common.{ℕ, zero, suc, ◌+◌, ◌-◌, ◌*◌, ◌%◌, ◌==◌, ◌&&◌, ◌<◌, ◌≤◌, ◌≡◌, nat_le, if◌then◌else◌, Bool, true, false, List, [], ◌∷◌, length, Option, Some, None, refl, sym, ap, ap₂, ◌∙◌, subst, arith}
+use Rattle.std.proofs.Common.{ℕ, suc, ◌+◌, ◌-◌, ◌==◌, ◌&&◌, ◌≡◌, nat_le, if◌then◌else◌, Bool, true, false, List, [], ◌∷◌, length, Option, Some, None, refl, sym, ap, ◌∙◌, arith, eq-eqb, IsTrue, ◌↔◌}
+use Rattle.std.specs.Cmp.{both_ways}
 use Rattle.std.proofs.lemmas.Bool.{and_parts, and_from, leb-true, le-leb, eqb-true, false≢true}
 use Rattle.fm_tuple.specs.Tuple.{TupleDivides, tuple_sum, tuple_difference}
 use Rattle.fm_tuple.proofs.Tuples.{tuple_sum_difference, tuple_sum_comm}
@@ -7,7 +8,8 @@ use Rattle.fm_tuple.proofs.TupleEntries.{length_entrywise}
 use Rattle.fm_poly.specs.declared.ring.Ring.{Ring}
 use Rattle.fm_vec.specs.declared.vterm.VTerm.{VTerm}
 use Rattle.fm_complete.specs.declared.step.Step.{Step}
-use Rattle.fm_complete.specs.Divisors.{tuple_divides, term_divides, step_for, step_with, first_step}
+use Rattle.fm_complete.specs.Divisors.{tuple_divides, term_divides, step_for, first_step, next_step}
+use Rattle.fm_vec.specs.Vectors.{head_of}
 use Rattle.fm_complete.specs.Trails.{member_at}
 
 -- ---- the test
@@ -34,6 +36,25 @@ pub step_mono : (r : Ring) (number : ℕ) (b t : VTerm) → length b.mono ≡ le
 step_mono r number b t l e =
     tuple_sum_comm (tuple_difference t.mono b.mono) b.mono (length_entrywise ◌-◌ t.mono b.mono (sym l) ∙ sym l)
     ∙ tuple_sum_difference b.mono t.mono l (divides_mono b t e)
+
+-- the test as the code makes it
+pub test_is : (x : Bool) (b t : VTerm) → b.component ≡ t.component → IsTrue x ↔ TupleDivides b.mono t.mono → x ≡ term_divides b t
+test_is x b t e h =
+    both_ways x (tuple_divides b.mono t.mono) (λ k. tuple_divides_if b.mono t.mono (h.0 k)) (λ k. h.1 (tuple_divides_means b.mono t.mono k))
+    ∙ ap (λ c. c && tuple_divides b.mono t.mono) (sym (eq-eqb b.component t.component e))
+
+-- ---- the next step
+pub no_head : (r : Ring) (members : List (List VTerm)) (v : List VTerm) → None ≡ head_of v → next_step r members v ≡ None
+no_head r members [] e = refl
+no_head r members (t ∷ ts) e = cc
+
+pub next_is : (r : Ring) (members : List (List VTerm)) (v : List VTerm) (h : VTerm) → Some h ≡ head_of v → next_step r members v ≡ first_step r 1 members h
+next_is r members [] h e = cc
+next_is r members (t ∷ ts) h e = let same : h ≡ t = cc in ap (first_step r 1 members) (sym same)
+
+pub has_tail : (v : List VTerm) (h : VTerm) → Some h ≡ head_of v → (ts : List VTerm) × (v ≡ h ∷ ts)
+has_tail [] h e = cc
+has_tail (t ∷ ts) h e = let same : h ≡ t = cc in (ts, ap (λ x. x ∷ ts) (sym same))
 
 -- ---- a found step
 -- s is the step by which the member g, with this number, cancels t

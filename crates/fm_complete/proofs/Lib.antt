@@ -1,3 +1,4 @@
 pub mod Heads
 pub mod Cancelling
 pub mod Trails
+pub mod Running

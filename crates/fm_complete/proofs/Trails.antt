@@ -1,7 +1,7 @@
 -- A head reduction keeps the trail: the quotients fall
-use Rattle.std.proofs.Common.{ℕ, ◌+◌, ◌*◌, ◌==◌, ◌<◌, ◌≡◌, ◌⊎◌, inl, inr, if◌then◌else◌, Bool, true, false, List, [], ◌∷◌, ◌++◌, length, refl, sym, ap, ap₂, ◌∙◌, subst, arith, append-nil}
+use Rattle.std.proofs.Common.{ℕ, ◌==◌, ◌<◌, ◌≡◌, inl, inr, if◌then◌else◌, Bool, true, false, List, [], ◌∷◌, ◌++◌, length, refl, sym, ap, ◌∙◌, subst, arith, append-nil}
 use Rattle.std.proofs.lemmas.Bool.{eqb-true}
-use Rattle.std.specs.declared.cmp.Ordering.TheVariants.{Less, Equal, Greater}
+use Rattle.std.specs.declared.cmp.Ordering.TheVariants.{Less}
 use Rattle.fm_tuple.specs.Tuple.{tuple_sum}
 use Rattle.fm_gfp.specs.Primes.{prime_value}
 use Rattle.fm_mono.specs.declared.order.Order.{Order}
@@ -14,7 +14,7 @@ use Rattle.fm_poly.specs.declared.term.Term.{Term}
 use Rattle.fm_poly.specs.Polys.{pairs, IsCanonical}
 use Rattle.fm_vec.specs.declared.vterm.VTerm.{VTerm}
 use Rattle.fm_vec.specs.Places.{place_cmp, AllBelow}
-use Rattle.fm_vec.specs.Vectors.{IsTerm, IsVector}
+use Rattle.fm_vec.specs.Vectors.{IsVector}
 use Rattle.fm_vec.specs.Multiples.{times_term}
 use Rattle.fm_vec.proofs.Places.{less_place}
 use Rattle.fm_vec.proofs.Adding.{below_trans, below_same}

@@ -3,3 +3,4 @@ pub mod Divisors
 pub mod Reductions
 pub mod Divisions
 pub mod Trails
+pub mod Reduced

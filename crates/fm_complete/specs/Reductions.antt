@@ -1,5 +1,5 @@
 -- The standard division as a run: heads are cancelled while a member's head divides them.
-use Rattle.std.specs.Prelude.{ℕ, zero, suc, if◌then◌else◌, List, [], ◌∷◌, Option, Some, None, Result, Ok, Err}
+use Rattle.std.specs.Prelude.{ℕ, zero, suc, if◌then◌else◌, List, [], ◌∷◌, Option, Some, None, Ok, Err}
 use Rattle.fm_poly.specs.declared.ring.Ring.{Ring}
 use Rattle.fm_vec.specs.declared.vterm.VTerm.{VTerm}
 use Rattle.fm_vec.specs.Multiples.{negated, plus_multiple, multiple_fits}

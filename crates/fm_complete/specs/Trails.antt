@@ -1,6 +1,5 @@
 -- What the head reductions of a division keep: the quotients fall, and what is left is below all that was cancelled.
 use Rattle.std.specs.Prelude.{ℕ, zero, suc, ◌≡◌, List, [], ◌∷◌, ◌++◌, length}
-use Rattle.fm_mono.specs.declared.order.Order.{Order}
 use Rattle.fm_poly.specs.declared.ring.Ring.{Ring}
 use Rattle.fm_poly.specs.Polys.{IsCanonical}
 use Rattle.fm_vec.specs.declared.vterm.VTerm.{VTerm}
