@@ -2,3 +2,5 @@ pub mod Heads
 pub mod Cancelling
 pub mod Trails
 pub mod Running
+pub mod DivisionLaw
+pub mod Principal

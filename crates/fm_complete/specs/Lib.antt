@@ -4,3 +4,4 @@ pub mod Reductions
 pub mod Divisions
 pub mod Trails
 pub mod Reduced
+pub mod Combinations

@@ -3,6 +3,7 @@
 
 pub mod dividing;
 pub mod division;
+pub mod laws;
 pub(crate) mod reducing;
 pub mod step;
 pub(crate) mod stepping;

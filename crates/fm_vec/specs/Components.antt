@@ -39,6 +39,11 @@ abbrev pub column_terms : ℕ → List PolyValue → List VTerm
 column_terms k [] = []
 column_terms k (f ∷ fs) = placed k f.terms ++ column_terms (suc k) fs
 
+-- each polynomial is of the ring r
+abbrev pub AreOver : Ring → List PolyValue → Type 0
+AreOver r [] = Unit {0}
+AreOver r (f ∷ fs) = (f.ring ≡ r) × AreOver r fs
+
 -- each polynomial is of the ring r and has the terms of one
 abbrev pub AreOfRing : Ring → List PolyValue → Type 0
 AreOfRing r [] = Unit {0}

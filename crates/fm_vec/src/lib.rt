@@ -1,6 +1,8 @@
 // Vectors of polynomials over GF(p) as falling lists of terms.
 #![tactic(auto)]
 
+pub(crate) mod columns;
+pub mod laws;
 pub(crate) mod multiples;
 pub(crate) mod terms;
 pub mod vector;

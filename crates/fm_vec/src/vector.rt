@@ -1,15 +1,18 @@
 // Vectors.
 ghost use Rattle.std.specs.Prelude.{IfOk, IsErrOf, OnOk, [], false, length, true, ◌<◌, ◌^◌, ◌≡◌, ◌≢◌};
 ghost use Rattle.fm_gfp.specs.Primes.{prime_value};
+ghost use Rattle.fm_vec.specs.Components as parts;
+ghost use Rattle.fm_vec.specs.Components.{AreOver, column_from};
 ghost use Rattle.fm_vec.specs.Multiples.{minus_multiple, monic_of, multiple_fits, plus_multiple, s_vector_fits, s_vector_of, twist_fits, twisted};
 ghost use Rattle.fm_vec.specs.Vectors.{HaveSVector, IsVector, head_of};
 
+use crate::columns::{column_of, column_terms};
 use crate::multiples::{fits, s_terms, sum_with_multiple};
 use crate::terms::{scale, twist_terms};
 use crate::vterm::VTerm;
 use fm_gfp::Gf;
 use fm_mono::Mono;
-use fm_poly::{PolyError, Ring};
+use fm_poly::{Poly, PolyError, Ring};
 use std::alloc::{AllocError, Global};
 use std::marker::Model;
 
@@ -193,5 +196,26 @@ impl Vector {
             rows: self.rows,
             terms,
         })
+    }
+
+    /// The vector whose components are these polynomials.
+    pub fn from_column(alloc: Global, ring: Ring, column: &[Poly]) -> Result<Vector, AllocError>
+        requires few { length column.now < 2 ^ 32 }
+        requires over { AreOver ring column.now }
+        ensures { IfOk result (λ v. v ≡ record { ring = ring; rows = length column.now; terms = parts.column_terms 1 column.now }) }
+    {
+        let terms = column_terms(alloc, ring, column)?;
+        Ok(Vector {
+            ring,
+            rows: column.len() as u32,
+            terms,
+        })
+    }
+
+    /// The components.
+    pub fn to_column(&self, alloc: Global) -> Result<Vec<Poly>, AllocError>
+        ensures { IfOk result (λ column. column.items ≡ column_from self.now.ring self.now.rows 1 self.now.terms) }
+    {
+        column_of(alloc, self.ring, self.rows, &self.terms)
     }
 }
