@@ -1,6 +1,6 @@
 -- The coefficients of polynomials over GF(p), in the words that contracts cite
-use Rattle.std.proofs.Common.{◌≡◌, ◌<◌, ℕ, ◌+◌, ◌-◌, ◌*◌, ◌%◌, List, length, replicate, ◌⊎◌, inl, inr, refl, ap, sym, ◌∙◌, mod-eq_of_lt}
-use Rattle.std.proofs.Math.Nat.{zero-mod}
+use Rattle.std.proofs.Common.{◌≡◌, ◌<◌, ℕ, ◌+◌, ◌-◌, ◌*◌, ◌%◌, List, length, replicate, ◌⊎◌, inl, inr, refl, ap, sym, ◌∙◌, mod-eq_of_lt, mul-one, mul-zero}
+use Rattle.std.proofs.Math.Nat.{zero-mod, add-mod-mod}
 use Rattle.std.proofs.lemmas.Nat.{mul-mod_first}
 use native.Mathlib.Decide.{ℕ_discrete}
 use Rattle.fm_gfp.specs.Primes.{prime_value}
@@ -9,9 +9,10 @@ use Rattle.fm_gfp.proofs.Residues.{prime_above_one}
 use Rattle.fm_algebra.specs.Splits.{over_splits}
 use Rattle.fm_algebra.specs.Series.{unit}
 use Rattle.fm_algebra.specs.Gf.{gf, gf_is_zero, prime_positive, residue, same_residue}
-use Rattle.fm_algebra.specs.Poly.{Among, coeff, polynomial}
+use Rattle.fm_algebra.specs.Poly.{Among, apart, coeff, polynomial, same_tuple}
 use Rattle.fm_algebra.specs.PolyRing.{support}
-use Rattle.fm_algebra.specs.Polynomials.{Polynomial, polynomials, coefficient, polynomial_zero, polynomial_one, polynomial_sum, polynomial_product, polynomial_negative, polynomial_multiple, polynomial_term}
+use Rattle.fm_algebra.specs.Polynomials.{Polynomial, polynomials, coefficient, polynomial_zero, polynomial_one, polynomial_sum, polynomial_difference, polynomial_product, polynomial_negative, polynomial_multiple, polynomial_term}
+use Rattle.fm_algebra.proofs.Algebra.{add_neg, add_cancel, mul_zero}
 use Rattle.fm_algebra.proofs.Gf.{gf_laws, gf_field, number_splits}
 use Rattle.fm_algebra.proofs.Poly.{support_covers, coeff_fixed, same_at_tuples, at_tuple, restricted}
 use Rattle.fm_algebra.proofs.PolyRing.{coeff_zero, coeff_add, coeff_mul, coeff_neg, coeff_multiple, coeff_one, multiple_mul, unit_at_zeros, unit_elsewhere}
@@ -19,6 +20,7 @@ use Rattle.fm_algebra.proofs.TuplePlaces.{length_zeros}
 use Rattle.fm_algebra.proofs.Monomial.{coeff_monomial_at, single_same, single_other}
 use Rattle.fm_algebra.proofs.Domain.{domain}
 use Rattle.fm_algebra.proofs.Lex.{lex_order}
+use Rattle.fm_algebra.proofs.Concrete.{polynomials_laws}
 
 module _ (p : Prime) (n : ℕ) where
   -- ---- a polynomial is its coefficients
@@ -115,17 +117,64 @@ module _ (p : Prime) (n : ℕ) where
   term_other_length c a w = same_coefficients _ _ (λ b l. coefficient_term_elsewhere c a b (λ e. w (ap length (sym e) ∙ l)) ∙ sym (coefficient_zero b))
 
   -- ---- multiples
+  product_with_one : (f : Polynomial p n) → polynomial_product p n (polynomial_one p n) f ≡ f
+  unfolding polynomial_product polynomial_one
+  product_with_one f = (polynomials_laws p n).one_mul f
+
   pub multiple_of_product : (c : ℕ) (f g : Polynomial p n) → polynomial_multiple p n c (polynomial_product p n f g) ≡ polynomial_product p n (polynomial_multiple p n c f) g
   unfolding polynomial_multiple polynomial_product
   multiple_of_product c f g = multiple_mul (gf p) (gf_laws p) (gf_is_zero p) n (residue (prime_value p) (prime_positive p) c) f g
 
+  -- 1 is a term
+  pub one_is_a_term : polynomial_one p n ≡ polynomial_term p n 1 (replicate n 0)
+  one_is_a_term = same_coefficients _ _ (λ a l. elim (same_tuple a (replicate n 0)) [
+    | inl s ↦ ap (coefficient p n (polynomial_one p n)) s.0 ∙ coefficient_one
+        ∙ sym (ap (coefficient p n (polynomial_term p n 1 (replicate n 0))) s.0 ∙ coefficient_term 1 (replicate n 0) (length_zeros n) ∙ mod-eq_of_lt (prime_above_one p))
+    | inr w ↦ coefficient_one_elsewhere a (apart a (replicate n 0) w) ∙ sym (coefficient_term_elsewhere 1 (replicate n 0) a (apart a (replicate n 0) w))
+  ])
+
+  -- c * 1 is a constant term
+  multiple_of_one : (c : ℕ) → polynomial_multiple p n c (polynomial_one p n) ≡ polynomial_term p n c (replicate n 0)
+  multiple_of_one c = same_coefficients _ _ (λ a l. coefficient_multiple c (polynomial_one p n) a ∙ elim (same_tuple a (replicate n 0)) [
+    | inl s ↦ ap (λ x. (c * coefficient p n (polynomial_one p n) x) % prime_value p) s.0 ∙ ap (λ k. (c * k) % prime_value p) coefficient_one ∙ ap (λ k. k % prime_value p) (mul-one c)
+        ∙ sym (ap (coefficient p n (polynomial_term p n c (replicate n 0))) s.0 ∙ coefficient_term c (replicate n 0) (length_zeros n))
+    | inr w ↦ ap (λ k. (c * k) % prime_value p) (coefficient_one_elsewhere a (apart a (replicate n 0) w)) ∙ ap (λ k. k % prime_value p) (mul-zero c) ∙ zero-mod (prime_value p)
+        ∙ sym (coefficient_term_elsewhere c (replicate n 0) a (apart a (replicate n 0) w))
+  ])
+
+  -- a multiple is the product with a constant
+  pub multiple_is_a_product : (c : ℕ) (f : Polynomial p n) → polynomial_multiple p n c f ≡ polynomial_product p n (polynomial_term p n c (replicate n 0)) f
+  multiple_is_a_product c f =
+      ap (polynomial_multiple p n c) (sym (product_with_one f)) ∙ multiple_of_product c (polynomial_one p n) f
+      ∙ ap (λ g. polynomial_product p n g f) (multiple_of_one c)
+
+  pub coefficient_difference : (f g : Polynomial p n) (a : List ℕ)
+      → coefficient p n (polynomial_difference p n f g) a ≡ (coefficient p n f a + (prime_value p - coefficient p n g a)) % prime_value p
+  unfolding polynomial_difference
+  coefficient_difference f g a =
+      coefficient_sum f (polynomial_negative p n g) a
+      ∙ ap (λ k. (coefficient p n f a + k) % prime_value p) (coefficient_negative g a)
+      ∙ add-mod-mod (coefficient p n f a) (prime_value p - coefficient p n g a) (prime_value p)
+
   -- ---- an integral domain
   pub one_differs : ¬ (polynomial_one p n ≡ polynomial_zero p n)
-  one_differs e = apart (sym coefficient_one ∙ ap (λ f. coefficient p n f (replicate n 0)) e ∙ coefficient_zero (replicate n 0))
+  one_differs e = differs (sym coefficient_one ∙ ap (λ f. coefficient p n f (replicate n 0)) e ∙ coefficient_zero (replicate n 0))
     where
-      apart : ¬ (◌≡◌ {A = ℕ} 1 0)
-      apart e = cc
+      differs : ¬ (◌≡◌ {A = ℕ} 1 0)
+      differs e = cc
 
   pub polynomials_domain : (f g : Polynomial p n) → polynomial_product p n f g ≡ polynomial_zero p n → (f ≡ polynomial_zero p n) ⊎ (g ≡ polynomial_zero p n)
   unfolding polynomial_product polynomial_zero
   polynomials_domain f g e = domain (gf p) (gf_laws p) (gf_field p) (gf_is_zero p) n lex_order f g e
+
+  -- a factor that is not 0 may be cancelled
+  pub cancel_factor : (f g h : Polynomial p n) → ¬ (f ≡ polynomial_zero p n) → polynomial_product p n f g ≡ polynomial_product p n f h → g ≡ h
+  unfolding polynomial_product polynomial_zero
+  cancel_factor f g h w e =
+      let L = polynomials_laws p n in
+      let minus = (polynomials p n).neg h in
+      elim (domain (gf p) (gf_laws p) (gf_field p) (gf_is_zero p) n lex_order f ((polynomials p n).add g minus)
+      (L.mul_add f g minus ∙ ap (λ x. (polynomials p n).add x ((polynomials p n).mul f minus)) e ∙ sym (L.mul_add f h minus) ∙ ap ((polynomials p n).mul f) (add_neg L h) ∙ mul_zero L f)) [
+        | inl z ↦ absurd (w z)
+        | inr z ↦ add_cancel L minus g h (L.add_comm minus g ∙ z ∙ sym (L.neg_add h))
+      ]

@@ -192,8 +192,12 @@ module _ (p : Prime) (n e : ℕ) where
       ∙ sum_zero _ _ (u d) (product_zero (u k) _ (slice_other k d (all k (inl refl)) v (λ s. once.0 (subst (λ y. Among y ks) s w))))
       (one_of u ks d (λ a x. all a (inr x)) v once.1 w)
 
+  -- the slices of the sum of all x ^ a * (u a)^[q] are the u a
+  pub slice_of_total : (u : List ℕ → Polynomial p n) (d : List ℕ) → length d ≡ n → AllBelow (prime_value p ^ e) d
+      → frobenius_slice p n e d (polynomial_total p n (map (λ a. polynomial_product p n (polynomial_term p n 1 a) (frobenius_twist p n e (u a))) (tuples_below n (prime_value p ^ e)))) ≡ u d
+  slice_of_total u d l w = one_of u (tuples_below n q) d (listed_tuples n q) (l, w) (tuples_once n q) (among_tuples_below n q d l w)
+
   -- f is the sum of all x ^ a * (slice of f at a)^[q] with a below q
   pub slice_total : (f : Polynomial p n)
       → polynomial_total p n (map (λ a. polynomial_product p n (polynomial_term p n 1 a) (frobenius_twist p n e (frobenius_slice p n e a f))) (tuples_below n (prime_value p ^ e))) ≡ f
-  slice_total f = same_slices p n e _ f (λ d l w.
-      one_of (λ a. frobenius_slice p n e a f) (tuples_below n q) d (listed_tuples n q) (l, w) (tuples_once n q) (among_tuples_below n q d l w))
+  slice_total f = same_slices p n e _ f (slice_of_total (λ a. frobenius_slice p n e a f))

@@ -1,6 +1,6 @@
 -- The meaning of a list of terms over GF(p), in the words that contracts cite
-use Rattle.std.proofs.Common.{◌≡◌, ◌<◌, ℕ, ◌+◌, ◌*◌, ◌%◌, Bool, true, false, if◌then◌else◌, List, [], ◌∷◌, ◌++◌, map, length, inl, inr, refl, ap, ap₂, sym, ◌∙◌, subst, mod-eq_of_lt, arith}
-use Rattle.std.proofs.Math.Nat.{zero-mod, add-mod}
+use Rattle.std.proofs.Common.{◌-◌, mul-zero, mul-add, zero-add, ◌≡◌, ◌<◌, ℕ, ◌+◌, ◌*◌, ◌%◌, Bool, true, false, if◌then◌else◌, List, [], ◌∷◌, ◌++◌, map, length, inl, inr, refl, ap, ap₂, sym, ◌∙◌, subst, mod-eq_of_lt, arith}
+use Rattle.std.proofs.Math.Nat.{zero-mod, add-mod, mod_self}
 use Rattle.std.proofs.lemmas.Nat.{mul-mod_first, mul-mod_second}
 use Rattle.std.specs.declared.cmp.Ordering.{Ordering}
 use Rattle.fm_tuple.specs.Tuple.{tuple_sum}
@@ -10,13 +10,13 @@ use Rattle.fm_algebra.specs.Gf.{gf, gf_is_zero, prime_positive, residue, Residue
 use Rattle.fm_algebra.specs.Poly.{coeff, same_tuple, tuple_eq, apart}
 use Rattle.fm_algebra.specs.Monomial.{monomial, sum_of_terms}
 use Rattle.fm_algebra.specs.Heads.{IsMonomialOrder, IsHead, AllLess, IsFalling, AreTerms}
-use Rattle.fm_algebra.specs.Polynomials.{Polynomial, polynomials, coefficient, polynomial_zero, polynomial_sum, polynomial_product, polynomial_term, polynomial_of, listed_coefficient, AllFit, AreListedTerms, HasHead}
-use Rattle.fm_algebra.proofs.Algebra.{mul_zero}
+use Rattle.fm_algebra.specs.Polynomials.{Polynomial, polynomials, coefficient, polynomial_zero, polynomial_sum, polynomial_product, polynomial_multiple, polynomial_negative, polynomial_term, polynomial_of, listed_coefficient, AllFit, AreListedTerms, HasHead}
+use Rattle.fm_algebra.proofs.Algebra.{mul_zero, zero_mul, add_mul, neg_zero, neg_sum}
 use Rattle.fm_algebra.proofs.Gf.{gf_laws}
 use Rattle.fm_algebra.proofs.Monomial.{monomial_mul}
 use Rattle.fm_algebra.proofs.Terms.{coeff_first, first_is_head, terms_unique}
 use Rattle.fm_algebra.proofs.Concrete.{polynomials_laws}
-use Rattle.fm_algebra.proofs.PolynomialWords.{same_coefficients, coefficient_zero, coefficient_sum, coefficient_term, coefficient_term_elsewhere}
+use Rattle.fm_algebra.proofs.PolynomialWords.{same_coefficients, coefficient_zero, coefficient_sum, coefficient_multiple, coefficient_negative, coefficient_term, coefficient_term_elsewhere}
 
 module _ (p : Prime) (n : ℕ) where
   abbrev pub Terms : Type 0
@@ -99,6 +99,54 @@ module _ (p : Prime) (n : ℕ) where
   term_times c a (t ∷ ts) l f =
       (polynomials_laws p n).mul_add (polynomial_term p n c a) (polynomial_term p n t.1 t.0) (polynomial_of p n ts)
       ∙ ap₂ (polynomials p n).add (term_product c t.1 a t.0 l f.0) (term_times c a ts l f.1)
+
+  -- each term times each term
+  abbrev pub product_terms : Terms → Terms → Terms
+  product_terms [] us = []
+  product_terms (t ∷ ts) us = shifted_terms t.1 t.0 us ++ product_terms ts us
+
+  pub of_product : (ts us : Terms) → AllFit n ts → AllFit n us → polynomial_product p n (polynomial_of p n ts) (polynomial_of p n us) ≡ polynomial_of p n (product_terms ts us)
+  unfolding polynomial_of polynomial_product polynomial_zero polynomial_sum
+  of_product [] us f g = zero_mul (polynomials_laws p n) (polynomial_of p n us)
+  of_product (t ∷ ts) us f g =
+      add_mul (polynomials_laws p n) (polynomial_term p n t.1 t.0) (polynomial_of p n ts) (polynomial_of p n us)
+      ∙ ap₂ (polynomials p n).add (term_times t.1 t.0 us f.0 g) (of_product ts us f.1 g)
+      ∙ sym (of_append (shifted_terms t.1 t.0 us) (product_terms ts us))
+
+  -- ---- multiples and negatives
+  listed_multiple : (c : ℕ) (ts : Terms) (a : List ℕ) → listed_coefficient (map (λ t. (t.0, c * t.1)) ts) a ≡ c * listed_coefficient ts a
+  listed_multiple c [] a = sym (mul-zero c)
+  listed_multiple c (t ∷ ts) a =
+      ap (λ k. (if tuple_eq a t.0 then c * t.1 else 0) + k) (listed_multiple c ts a) ∙ chosen (tuple_eq a t.0)
+    where
+      chosen : (b : Bool) → (if b then c * t.1 else 0) + c * listed_coefficient ts a ≡ c * ((if b then t.1 else 0) + listed_coefficient ts a)
+      chosen true = sym (mul-add c t.1 (listed_coefficient ts a))
+      chosen false = zero-add (c * listed_coefficient ts a) ∙ ap (λ k. c * k) (sym (zero-add (listed_coefficient ts a)))
+
+  pub of_multiple : (c : ℕ) (ts : Terms) → polynomial_multiple p n c (polynomial_of p n ts) ≡ polynomial_of p n (map (λ t. (t.0, c * t.1)) ts)
+  of_multiple c ts = same_coefficients p n _ _ (λ a l.
+      coefficient_multiple p n c (polynomial_of p n ts) a ∙ ap (λ k. (c * k) % prime_value p) (coefficient_of ts a l)
+      ∙ mul-mod_second c (listed_coefficient ts a) (prime_value p) ∙ ap (λ k. k % prime_value p) (sym (listed_multiple c ts a))
+      ∙ sym (coefficient_of (map (λ t. (t.0, c * t.1)) ts) a l))
+
+  sub-zero : (k : ℕ) → k - 0 ≡ k
+  sub-zero k = omega arith
+
+  negative_of_term : (c : ℕ) (a : List ℕ) → polynomial_negative p n (polynomial_term p n c a) ≡ polynomial_term p n (prime_value p - c % prime_value p) a
+  negative_of_term c a = same_coefficients p n _ _ (λ b l. coefficient_negative p n (polynomial_term p n c a) b ∙ elim (same_tuple b a) [
+    | inl s ↦ ap (λ x. (prime_value p - coefficient p n (polynomial_term p n c a) x) % prime_value p) s.0
+        ∙ ap (λ k. (prime_value p - k) % prime_value p) (coefficient_term p n c a (ap length (sym s.0) ∙ l))
+        ∙ sym (ap (coefficient p n (polynomial_term p n (prime_value p - c % prime_value p) a)) s.0 ∙ coefficient_term p n (prime_value p - c % prime_value p) a (ap length (sym s.0) ∙ l))
+    | inr w ↦ ap (λ k. (prime_value p - k) % prime_value p) (coefficient_term_elsewhere p n c a b (apart b a w)) ∙ ap (λ k. k % prime_value p) (sub-zero (prime_value p)) ∙ mod_self (prime_value p)
+        ∙ sym (coefficient_term_elsewhere p n (prime_value p - c % prime_value p) a b (apart b a w))
+  ])
+
+  pub of_negative : (ts : Terms) → polynomial_negative p n (polynomial_of p n ts) ≡ polynomial_of p n (map (λ t. (t.0, prime_value p - t.1 % prime_value p)) ts)
+  unfolding polynomial_of polynomial_sum polynomial_zero polynomial_negative
+  of_negative [] = neg_zero (polynomials_laws p n)
+  of_negative (t ∷ ts) =
+      neg_sum (polynomials_laws p n) (polynomial_term p n t.1 t.0) (polynomial_of p n ts)
+      ∙ ap₂ (polynomials p n).add (negative_of_term t.1 t.0) (of_negative ts)
 
   -- ---- falling lists
   abbrev pub reduced : Terms → List (List ℕ × Residue (prime_value p))

@@ -1,14 +1,13 @@
 -- The integers modulo m, and the field GF(p) for the listed primes (Lang, Algebra, chapter II, section 2, and chapter V, section 5).
 use Rattle.std.specs.Prelude.{◌≡◌, ℕ, ◌+◌, ◌-◌, ◌*◌, ◌%◌, ◌<◌}
-use Prim.Native.Nat.{suc-le-suc, zero-le}
 use native.Mathlib.Nat.{mod-lt, zero-mod}
 use native.Mathlib.Decide.{ℕ_discrete}
 use native.Mathlib.Bridge.{le_prop}
 use mathlib.Core.HLevel.{Σ_prop_path}
 use mathlib.Core.Path.{sym, ap, ◌∙◌}
 use Rattle.fm_gfp.specs.Primes.{prime_value}
+pub use Rattle.fm_gfp.proofs.Residues.{prime_positive}
 use Rattle.fm_gfp.specs.declared.prime.Prime.{Prime}
-use Rattle.fm_gfp.specs.declared.prime.Prime.TheVariants.{Two, Three, Five, Seven, Eleven, Thirteen}
 use Rattle.fm_algebra.specs.Ring.{Ring}
 
 -- an integer modulo m, by its least number
@@ -16,6 +15,7 @@ pub record Residue (m : ℕ) : Type 0 where
   pub number : ℕ
   pub below : number < m
 
+-- residues with the same number are equal
 pub same_residue : {m : ℕ} (a b : Residue m) → a.number ≡ b.number → a ≡ b
 same_residue {m} a b e =
     let pairs : ◌≡◌ {A = (n : ℕ) × (n < m)} (a.number, a.below) (b.number, b.below) = Σ_prop_path (λ n. le_prop) e in
@@ -36,14 +36,6 @@ module _ (m : ℕ) (pos : 0 < m) where
     mul = λ a b. residue (a.number * b.number);
     neg = λ a. residue (m - a.number);
   }
-
-abbrev pub prime_positive : (p : Prime) → 0 < prime_value p
-prime_positive Two = suc-le-suc zero-le
-prime_positive Three = suc-le-suc zero-le
-prime_positive Five = suc-le-suc zero-le
-prime_positive Seven = suc-le-suc zero-le
-prime_positive Eleven = suc-le-suc zero-le
-prime_positive Thirteen = suc-le-suc zero-le
 
 -- GF(p)
 abbrev pub gf : Prime → Ring

@@ -7,6 +7,7 @@ use Rattle.fm_algebra.specs.Poly.{Poly, polynomial, tuple_cmp}
 use Rattle.fm_algebra.specs.PolyRing.{poly}
 
 module _ (K : Ring) where
+  -- c where the test holds, and else 0
   abbrev pub where_true : Bool → K.Carrier → K.Carrier
   where_true true c = c
   where_true false c = K.zero

@@ -31,7 +31,8 @@ pub record Poly (K : Ring) (n : ℕ) : Type 0 where
 unfoldable pub coeff : {K : Ring} {n : ℕ} → Poly K n → Series K
 coeff {K} f a = unwrap_or (maps.get f.terms a) K.zero
 
--- ---- what follows says how to give a polynomial by its coefficients: `polynomial h ks`
+-- ---- a polynomial by its coefficients is `polynomial h ks`, at the end; what it needs comes first
+-- unequal tuples are unequal as keys
 pub apart : (a b : List ℕ) → eq_by_cmp tuple_cmp a b ≡ false → ¬ (a ≡ b)
 apart a b n e = subst T (sym (ap is_eq (tied_itself nat_list_cmp_total b)) ∙ ap (λ x. eq_by_cmp tuple_cmp x b) (sym e) ∙ n) tt
 
@@ -40,6 +41,7 @@ abbrev pub Among : List ℕ → List (List ℕ) → Type 0
 Among a [] = ⊥
 Among a (b ∷ bs) = (a ≡ b) ⊎ Among a bs
 
+-- two tuples are equal, or unequal as keys
 tie : (a b : List ℕ) (r : Ordering) → tuple_cmp a b ≡ r → ((a ≡ b) × (eq_by_cmp tuple_cmp a b ≡ true)) ⊎ (eq_by_cmp tuple_cmp a b ≡ false)
 tie a b Less e = inr (ap is_eq e)
 tie a b Equal e = inl (slice_cmp-IsAntisymmetric nat_cmp-IsAntisymmetric a b e, ap is_eq e)
@@ -59,6 +61,7 @@ pub Some-same : {A : Type 0} {c d : A} → Some c ≡ Some d → c ≡ d
 Some-same {c = c} e = ap (λ o. unwrap_or o c) e
 
 module _ (K : Ring) (is_zero : (c : K.Carrier) → Dec (c ≡ K.zero)) where
+  -- the map with c at a, unless c is 0
   with_term : (a : List ℕ) (c : K.Carrier) → Dec (c ≡ K.zero) → FinMap tuple_cmp K.Carrier → FinMap tuple_cmp K.Carrier
   with_term a c (yes z) m = m
   with_term a c (no z) m = maps.insert m a c
@@ -81,6 +84,7 @@ module _ (K : Ring) (is_zero : (c : K.Carrier) → Dec (c ≡ K.zero)) where
     )
   ]
 
+  -- what the table has at a tuple
   pub get-table : (h : Series K) (ks : List (List ℕ)) (q : List ℕ)
       → ((maps.get (table h ks) q ≡ None) × (Among q ks → h q ≡ K.zero)) ⊎ (¬ (h q ≡ K.zero) × (maps.get (table h ks) q ≡ Some (h q)))
   unfolding table
@@ -99,6 +103,7 @@ module _ (K : Ring) (is_zero : (c : K.Carrier) → Dec (c ≡ K.zero)) where
     restrict_by h a (yes e) = h a
     restrict_by h a (no e) = K.zero
 
+    -- the same, the length decided
     abbrev pub restrict : Series K → Series K
     restrict h a = restrict_by h a (ℕ_discrete (length a) n)
 

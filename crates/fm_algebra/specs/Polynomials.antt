@@ -43,6 +43,10 @@ module _ (p : Prime) (n : ℕ) where
   unfoldable pub polynomial_negative : Polynomial p n → Polynomial p n
   polynomial_negative f = (polynomials p n).neg f
 
+  -- f - g
+  unfoldable pub polynomial_difference : Polynomial p n → Polynomial p n → Polynomial p n
+  polynomial_difference f g = polynomial_sum f (polynomial_negative g)
+
   -- c * f, for a number c modulo p
   unfoldable pub polynomial_multiple : ℕ → Polynomial p n → Polynomial p n
   polynomial_multiple c f = multiple (gf p) (gf_is_zero p) n (residue (prime_value p) (prime_positive p) c) f

@@ -28,11 +28,12 @@ pub record Digits (n q : ℕ) : Type 0 where
   pub fits : length tuple ≡ n
   pub below : AllBelow q tuple
 
--- the list of all tuples of n numbers below q
+-- the tuples i ∷ a with i below q and a of a list
 unfoldable pub with_first_below : ℕ → List (List ℕ) → List (List ℕ)
 with_first_below zero ks = []
 with_first_below (suc i) ks = map (λ a. i ∷ a) ks ++ with_first_below i ks
 
+-- the list of all tuples of n numbers below q
 unfoldable pub tuples_below : ℕ → ℕ → List (List ℕ)
 tuples_below zero q = [] ∷ []
 tuples_below (suc n) q = with_first_below q (tuples_below n q)

@@ -1,7 +1,8 @@
 // The laws of the algebra.
 
-pub mod matrices;
+pub mod examples;
 pub mod heads;
+pub mod matrices;
 pub mod polynomials;
 pub mod terms;
 pub mod twists;

@@ -1,9 +1,9 @@
 -- Facts about the residues modulo the listed primes. All rest on one test of each residue, which is computed.
--- For a new prime of the list add its line to `all_pass` and to `prime_above_one`, and nothing else.
-use Rattle.std.proofs.Common.{ℕ, zero, suc, ◌+◌, ◌-◌, ◌*◌, ◌^◌, ◌%◌, ◌<◌, ◌≡◌, Bool, true, ◌&&◌, ◌||◌, nat_eq, refl, sym, ap, ◌∙◌, inl, inr, arith, subst, ◌⊎◌, mod-eq_of_lt}
+-- For a new prime of the list add its line to the table `all_pass`, and nothing else.
+use Rattle.std.proofs.Common.{ℕ, zero, suc, ◌+◌, ◌-◌, ◌*◌, ◌^◌, ◌%◌, ◌<◌, ◌≡◌, Bool, true, ◌&&◌, ◌||◌, nat_eq, nat_lt, refl, sym, ap, ◌∙◌, inl, inr, arith, subst, ◌⊎◌, mod-eq_of_lt}
 use Rattle.std.proofs.Math.Nat.{mod_self, mod-lt, mul-mod_right, zero-mod}
 use Rattle.std.proofs.lemmas.Nat.{pow-mod, mul-mod_first, mul-mod_second}
-use Rattle.std.proofs.lemmas.Bool.{agree_below, agree_below_at, and_parts, or_cases, eqb-true}
+use Rattle.std.proofs.lemmas.Bool.{agree_below, agree_below_at, and_parts, or_cases, eqb-true, ltb-true}
 use Rattle.fm_gfp.specs.Primes.{prime_value}
 use Rattle.fm_gfp.specs.Binomials.{choose}
 use Rattle.fm_gfp.specs.declared.prime.Prime.{Prime}
@@ -17,8 +17,8 @@ passes p k = nat_eq (k ^ p % p) k && (nat_eq k 0 || nat_eq (k * k ^ (p - 2) % p)
 abbrev always : ℕ → Bool
 always k = true
 
--- ---- the two tables
-all_pass : (p : Prime) → agree_below (passes (prime_value p)) always (prime_value p) ≡ true
+-- ---- the table
+all_pass : (p : Prime) → (nat_lt 1 (prime_value p) && agree_below (passes (prime_value p)) always (prime_value p)) ≡ true
 all_pass Two = refl
 all_pass Three = refl
 all_pass Five = refl
@@ -26,20 +26,15 @@ all_pass Seven = refl
 all_pass Eleven = refl
 all_pass Thirteen = refl
 
-pub prime_above_one : (p : Prime) → 1 < prime_value p
-prime_above_one Two = omega arith
-prime_above_one Three = omega arith
-prime_above_one Five = omega arith
-prime_above_one Seven = omega arith
-prime_above_one Eleven = omega arith
-prime_above_one Thirteen = omega arith
-
 -- ---- what follows
+pub prime_above_one : (p : Prime) → 1 < prime_value p
+prime_above_one p = ltb-true 1 (prime_value p) (and_parts _ _ (all_pass p)).0
+
 pub prime_positive : (p : Prime) → 0 < prime_value p
 prime_positive p = omega (arith, prime_above_one p)
 
 passes_at : (p : Prime) (k : ℕ) → k < prime_value p → passes (prime_value p) k ≡ true
-passes_at p k below = agree_below_at (passes (prime_value p)) always (prime_value p) k (all_pass p) below
+passes_at p k below = agree_below_at (passes (prime_value p)) always (prime_value p) k (and_parts _ _ (all_pass p)).1 below
 
 -- k ^ p is k modulo p
 pub fermat : (p : Prime) (k : ℕ) → k < prime_value p → k ^ prime_value p % prime_value p ≡ k

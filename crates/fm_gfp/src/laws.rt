@@ -11,12 +11,14 @@ pub fn the_listed_numbers_are_prime()
 
 /// Each residue but 0 has an inverse modulo p.
 pub fn residues_have_inverses()
-    ensures { (p : Prime) (k : ℕ) → 0 < k → k < prime_value p → (j : ℕ) × (j < prime_value p) × ((k * j) % prime_value p ≡ 1) }
+    ensures { (p : Prime) (k : ℕ) → 0 < k → k < prime_value p
+        → (j : ℕ) × (j < prime_value p) × ((k * j) % prime_value p ≡ 1) }
 {}
 
 /// A product of two residues is 0 modulo p only if one of them is 0.
 pub fn no_zero_divisors()
-    ensures { (p : Prime) (a b : ℕ) → a < prime_value p → b < prime_value p → (a * b) % prime_value p ≡ 0 → (a ≡ 0) ⊎ (b ≡ 0) }
+    ensures { (p : Prime) (a b : ℕ) → a < prime_value p → b < prime_value p
+        → (a * b) % prime_value p ≡ 0 → (a ≡ 0) ⊎ (b ≡ 0) }
 {}
 
 /// The little theorem of Fermat: c to the p is c modulo p.
@@ -26,5 +28,6 @@ pub fn little_theorem_of_fermat()
 
 /// p divides p over i where 0 < i < p. Here i and p - i are the two numbers with sum p.
 pub fn p_divides_binomial_coefficients()
-    ensures { (p : Prime) (i j : ℕ) → suc i + suc j ≡ prime_value p → choose (suc i) (suc j) % prime_value p ≡ 0 }
+    ensures { (p : Prime) (i j : ℕ) → suc i + suc j ≡ prime_value p
+        → choose (suc i) (suc j) % prime_value p ≡ 0 }
 {}

@@ -4,6 +4,8 @@
 pub mod gf;
 pub mod laws;
 pub mod prime;
+#[cfg(test)]
+mod tests;
 
 pub use gf::Gf;
 pub use prime::Prime;

@@ -2,8 +2,9 @@
 use Rattle.std.proofs.Common.{ℕ, zero, suc, ◌+◌, ◌<◌, ◌≤◌, ◌≡◌, ◌↔◌, ◌∙◌, sym, ap, subst, arith, add-zero, add-suc, min, ◌⊎◌, inl, inr}
 use Rattle.std.proofs.lemmas.Bool.{cases_lt}
 use Rattle.fm_algebra.specs.Matrices.{Matrices, IsMatrices}
-use Rattle.fm_algebra.specs.Image.{InImage, Generates, Within, SameImage, Flat}
-use Rattle.fm_algebra.proofs.Images.{image_self, image_mul, within_twist, twist_more, columns_within, generates_twist}
+use Rattle.fm_algebra.specs.Image.{InImage}
+use Rattle.fm_algebra.proofs.Generation.{Generates, Within, SameImage, Everything, Flat}
+use Rattle.fm_algebra.proofs.Images.{image_mul, within_twist, everything_twist, twist_more, columns_within, generates_twist}
 
 module _ (M : Matrices) where
   open M use {Mat, ◌⊛◌, twist}
@@ -83,8 +84,17 @@ module _ {M : Matrices} (L : IsMatrices M) where
         λ h. (t, (steps_exact t e w).1 h),
       )
 
-  -- a chain that was computed through its repeat goes on with the repeated member
-  module _ {g : ℕ} {U : Mat g g} {sizes : ℕ → ℕ} {K : (s : ℕ) → Mat g (sizes s)} (t : ℕ) (same : SameImage M (K t) (K (suc t))) (begins : InImage M (twist 1 (K zero)) (U ⊛ K zero)) (step : (s : ℕ) → s < suc t → Generates M (K (suc s)) U (twist 1 (K s))) where
+  -- a chain that was computed through its repeat rises
+  module _ {g : ℕ} {U : Mat g g} {sizes : ℕ → ℕ} {K : (s : ℕ) → Mat g (sizes s)} (t : ℕ) (begins : InImage M (twist 1 (K zero)) (U ⊛ K zero)) (step : (s : ℕ) → s < suc t → Generates M (K (suc s)) U (twist 1 (K s))) where
+    pub rising_to : (s : ℕ) → s < suc t → Within M (K s) (K (suc s))
+    rising_to zero b v h =
+        (step zero b v).1 (subst (λ x. InImage M (twist 1 (K zero)) x) (assoc U (K zero) h.0 ∙ ap (λ x. U ⊛ x) h.1) (image_mul L (twist 1 (K zero)) (U ⊛ K zero) h.0 begins))
+    rising_to (suc s) b v h =
+        let c : s < suc t = omega arith in
+        (step (suc s) b v).1 (within_twist L 1 (K s) (K (suc s)) (rising_to s c) (U ⊛ v) ((step s c v).0 h))
+
+  -- a chain that was computed through K_t goes on with K_t where K_t generates all w with U * w in the image of its own twist
+  module _ {g : ℕ} {U : Mat g g} {sizes : ℕ → ℕ} {K : (s : ℕ) → Mat g (sizes s)} (t : ℕ) (begins : InImage M (twist 1 (K zero)) (U ⊛ K zero)) (step : (s : ℕ) → s < t → Generates M (K (suc s)) U (twist 1 (K s))) (last : Generates M (K t) U (twist 1 (K t))) where
     pub continued : Chain M g U (λ s. sizes (min s t)) (λ s. K (min s t))
     continued = record {
       begins = let q : min zero t ≡ zero = omega arith in subst (λ x. InImage M (twist 1 (K x)) (U ⊛ K x)) (sym q) begins;
@@ -95,9 +105,15 @@ module _ {M : Matrices} (L : IsMatrices M) where
         go s (inl b) =
             let q : min s t ≡ s = omega arith in
             let r : min (suc s) t ≡ suc s = omega arith in
-            subst (λ x. Generates M (K (min (suc s) t)) U (twist 1 (K x))) (sym q) (subst (λ x. Generates M (K x) U (twist 1 (K s))) (sym r) (step s (omega arith)))
+            subst (λ x. Generates M (K (min (suc s) t)) U (twist 1 (K x))) (sym q) (subst (λ x. Generates M (K x) U (twist 1 (K s))) (sym r) (step s b))
         go s (inr b) =
             let q : min s t ≡ t = omega arith in
             let r : min (suc s) t ≡ t = omega arith in
-            let last : Generates M (K t) U (twist 1 (K t)) = λ w. (λ h. (step t (omega arith) w).0 ((same w).0 h), λ h. (same w).1 ((step t (omega arith) w).1 h)) in
             subst (λ x. Generates M (K (min (suc s) t)) U (twist 1 (K x))) (sym q) (subst (λ x. Generates M (K x) U (twist 1 (K t))) (sym r) last)
+
+  -- so it does at a repeat, and where K_t is everything
+  pub last_repeats : {g a b : ℕ} {U : Mat g g} (K : Mat g a) (next : Mat g b) → Generates M next U (twist 1 K) → SameImage M K next → Generates M K U (twist 1 K)
+  last_repeats K next step same w = (λ h. (step w).0 ((same w).0 h), λ h. (same w).1 ((step w).1 h))
+
+  pub last_everything : {g a : ℕ} {U : Mat g g} (K : Mat g a) → Everything M K → Generates M K U (twist 1 K)
+  last_everything {g} {a} {U} K f w = (λ h. everything_twist L 1 K f (U ⊛ w), λ h. f w)

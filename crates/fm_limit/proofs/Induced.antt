@@ -1,8 +1,8 @@
 -- The induced map in coordinates: zero, one to one, onto
-use Rattle.std.proofs.Common.{ℕ, zero, suc, ◌+◌, ◌<◌, ◌≤◌, ◌≡◌, ◌↔◌, ◌∙◌, sym, ap, subst, add-zero, zero-add, arith}
-use native.Mathlib.Decide.{dec_le}
+use Rattle.std.proofs.Common.{ℕ, zero, suc, ◌+◌, ◌≡◌, ◌↔◌, ◌∙◌, sym, ap, subst, add-zero, zero-add}
 use Rattle.fm_algebra.specs.Matrices.{Matrices, IsMatrices}
-use Rattle.fm_algebra.specs.Image.{InImage, Within, SameImage, Everything, Flat, Generates}
+use Rattle.fm_algebra.specs.Image.{InImage}
+use Rattle.fm_algebra.proofs.Generation.{Within, SameImage, Everything, Flat, Generates}
 use Rattle.fm_algebra.proofs.Images.{image_self, image_mul, image_trans, image_twist, image_add, image_neg, image_near, image_columns, within_columns, within_twist, everything_twist, mul_nil, nil_add, add_sub, twist_product}
 use Rattle.fm_limit.specs.DirectSystem.{Degree, IsCocycle, IsCoboundary, move, moved, IsZeroInLimit}
 use Rattle.fm_limit.specs.Limit.{mapped, InducedMapIsZero, InducedMapIsOneToOne, InducedMapIsOnto, IsOntoBy}
@@ -46,12 +46,12 @@ module _ {M : Matrices} (L : IsMatrices M) where
     pub zero_map : InducedMapIsZero M S T lambda ↔ InImage M (Y.K Y.t) Phi
     zero_map = (
       λ f. image_columns L (Y.K Y.t) Phi (λ c h.
-        let b : Mat X.g 1 = basis X.g c h in
-        zero_first b ((zero_coords zero b).0 (f zero (twist zero X.Z ⊛ b) (is_class L F HS X zero b)))),
+          let b : Mat X.g 1 = basis X.g c h in
+          zero_first b ((zero_coords zero b).0 (f zero (twist zero X.Z ⊛ b) (is_class L F HS X zero b)))),
       λ h e z c.
-        let w = coords L F HS X e z c in
-        let k : InImage M (twist e (Y.K Y.t)) (twist e Phi ⊛ w.0) = image_mul L (twist e (Y.K Y.t)) (twist e Phi) w.0 (image_twist L e (Y.K Y.t) Phi h) in
-        subst (λ y. IsZeroInLimit M T e (mapped M S T lambda e y)) w.1 ((zero_coords e w.0).1 k),
+          let w = coords L F HS X e z c in
+          let k : InImage M (twist e (Y.K Y.t)) (twist e Phi ⊛ w.0) = image_mul L (twist e (Y.K Y.t)) (twist e Phi) w.0 (image_twist L e (Y.K Y.t) Phi h) in
+          subst (λ y. IsZeroInLimit M T e (mapped M S T lambda e y)) w.1 ((zero_coords e w.0).1 k),
     )
 
     -- it is one to one exactly if every w with Phi * w in the stable kernel of the target is in that of the source
@@ -86,19 +86,19 @@ module _ {M : Matrices} (L : IsMatrices M) where
     join_left e a h = (
       stack h.0 (nil X.g 1),
       ap (λ y. y ⊛ stack h.0 (nil X.g 1)) (twist_beside e (Y.K zero) Phi)
-      ∙ join_mul (twist e (Y.K zero)) (twist e Phi) h.0 (nil X.g 1)
-      ∙ ap (λ y. twist e (Y.K zero) ⊛ h.0 ⊕ y) (mul_nil L (twist e Phi))
-      ∙ add_nil (twist e (Y.K zero) ⊛ h.0)
-      ∙ h.1,
+          ∙ join_mul (twist e (Y.K zero)) (twist e Phi) h.0 (nil X.g 1)
+          ∙ ap (λ y. twist e (Y.K zero) ⊛ h.0 ⊕ y) (mul_nil L (twist e Phi))
+          ∙ add_nil (twist e (Y.K zero) ⊛ h.0)
+          ∙ h.1,
     )
 
     pub join_right : (e : ℕ) (b : Mat X.g 1) → InImage M (twist e J) (twist e Phi ⊛ b)
     join_right e b = (
       stack (nil (Y.sizes zero) 1) b,
       ap (λ y. y ⊛ stack (nil (Y.sizes zero) 1) b) (twist_beside e (Y.K zero) Phi)
-      ∙ join_mul (twist e (Y.K zero)) (twist e Phi) (nil (Y.sizes zero) 1) b
-      ∙ ap (λ y. y ⊕ twist e Phi ⊛ b) (mul_nil L (twist e (Y.K zero)))
-      ∙ nil_add L (twist e Phi ⊛ b),
+          ∙ join_mul (twist e (Y.K zero)) (twist e Phi) (nil (Y.sizes zero) 1) b
+          ∙ ap (λ y. y ⊕ twist e Phi ⊛ b) (mul_nil L (twist e (Y.K zero)))
+          ∙ nil_add L (twist e Phi ⊛ b),
     )
 
     pub join_parts : (e : ℕ) (v : Mat Y.g 1) → InImage M (twist e J) v → (b : Mat X.g 1) × InImage M (twist e (Y.K zero)) (v ⊕ neg (twist e Phi ⊛ b))

@@ -1,10 +1,11 @@
 -- Moves of classes, in coordinates; roots and the vanishing of the limit
-use Rattle.std.proofs.Common.{ℕ, zero, suc, ◌+◌, ◌≡◌, ◌↔◌, ◌∙◌, refl, sym, ap, subst, arith, add-zero, zero-add}
+use Rattle.std.proofs.Common.{ℕ, zero, suc, ◌+◌, ◌≡◌, ◌↔◌, ◌∙◌, refl, sym, ap, subst, arith, add-zero}
 use Rattle.fm_algebra.specs.Matrices.{Matrices, IsMatrices}
-use Rattle.fm_algebra.specs.Image.{InImage, InKernel, Generates, GeneratesKernel, Within, Everything, SameImage, Flat}
+use Rattle.fm_algebra.specs.Image.{InImage}
+use Rattle.fm_algebra.proofs.Generation.{Generates, GeneratesKernel, Within, Everything, SameImage, Flat}
 use Rattle.fm_limit.specs.DirectSystem.{Degree, IsCocycle, IsCoboundary, move, moved, IsKilledBy, IsZeroInLimit}
 use Rattle.fm_limit.specs.Limit.{LimitIsZero, IsRoot}
-use Rattle.fm_algebra.proofs.Images.{image_self, image_mul, image_nil, image_columns, within_twist, everything_twist, twist_more, mul_nil, nil_mul, twist_nil, flip_nil, mul_neg, generates_twist, kernel_twist, twist_product}
+use Rattle.fm_algebra.proofs.Images.{image_self, image_nil, image_columns, within_twist, everything_twist, twist_more, mul_nil, nil_mul, twist_nil, flip_nil, mul_neg, generates_twist, kernel_twist, twist_product}
 use Rattle.fm_limit.proofs.Chains.{Chain, steps, to_repeat, steps_exact}
 
 module _ (M : Matrices) where
@@ -67,8 +68,8 @@ module _ {M : Matrices} (L : IsMatrices M) where
         let s : Mat D.low D.low = H.lower.0 in (
           flip (twist e s) ⊛ h.0,
           ap (λ y. flip y ⊛ (flip (twist e s) ⊛ h.0)) (sym (twist_more L e D.below))
-          ∙ sym (dual_square e D.below D.theta s (twist 1 D.below) h.0 H.lower.1)
-          ∙ ap (λ y. flip (twist e D.theta) ⊛ y) h.1,
+              ∙ sym (dual_square e D.below D.theta s (twist 1 D.below) h.0 H.lower.1)
+              ∙ ap (λ y. flip (twist e D.theta) ⊛ y) h.1,
         )
 
     -- a cocycle is moved to a cocycle
@@ -204,8 +205,8 @@ module _ {M : Matrices} (L : IsMatrices M) where
       pub is_root : IsRoot M D X.g (X.sizes X.t) X.Z (X.K X.t) X.U
       is_root = record {
         generates = λ e z h.
-          let w = coords e z h in
-          (w.0, subst (λ y. IsCoboundary M D e y) (sym (add_neg z) ∙ ap (λ y. z ⊕ neg y) (sym w.1)) (image_nil L 1 (flip (twist e D.below))));
+            let w = coords e z h in
+            (w.0, subst (λ y. IsCoboundary M D e y) (sym (add_neg z) ∙ ap (λ y. z ⊕ neg y) (sym w.1)) (image_nil L 1 (flip (twist e D.below))));
         classes = is_class;
         embeds = zero_exactly;
         moves = subst (λ y. InImage M (flip (twist 1 D.below)) y) (sym (add_neg (twist 1 X.Z ⊛ X.U)) ∙ ap (λ y. y ⊕ neg (twist 1 X.Z ⊛ X.U)) (sym X.ext.morphism)) (image_nil L X.g (flip (twist 1 D.below)));
@@ -215,6 +216,6 @@ module _ {M : Matrices} (L : IsMatrices M) where
       zero_limit = (
         λ f w. subst (λ y. InImage M y w) (twist_none (X.K X.t)) ((zero_exactly zero w).0 (f zero (twist zero X.Z ⊛ w) (is_class zero w))),
         λ f e z h.
-          let w = coords e z h in
-          subst (λ y. IsZeroInLimit M D e y) w.1 ((zero_exactly e w.0).1 (everything_twist L e (X.K X.t) f w.0)),
+            let w = coords e z h in
+            subst (λ y. IsZeroInLimit M D e y) w.1 ((zero_exactly e w.0).1 (everything_twist L e (X.K X.t) f w.0)),
       )

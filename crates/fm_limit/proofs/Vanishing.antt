@@ -1,15 +1,16 @@
 -- The least number of moves, vanishing after inverting an element, and support ideals
-use Rattle.std.proofs.Common.{ℕ, zero, suc, ◌+◌, ◌*◌, ◌^◌, ◌<◌, ◌≤◌, ◌≡◌, ◌↔◌, ◌∙◌, refl, sym, ap, subst, arith, add-zero, zero-add}
+use Rattle.std.proofs.Common.{ℕ, zero, suc, ◌+◌, ◌*◌, ◌^◌, ◌<◌, ◌≤◌, ◌≡◌, ◌↔◌, ◌∙◌, sym, ap, subst, arith, add-zero}
 use Rattle.std.proofs.Math.Nat.{mul-zero}
 use native.Mathlib.Decide.{dec_le}
 use native.Mathlib.Bridge.{le_prop}
 use Rattle.fm_algebra.specs.Matrices.{Matrices, IsMatrices}
-use Rattle.fm_algebra.specs.Image.{InImage, Generates, SameImage, Everything, Flat, pow, IsPower}
+use Rattle.fm_algebra.specs.Image.{InImage, pow}
+use Rattle.fm_algebra.proofs.Generation.{Generates, SameImage, Everything, Flat, IsPower}
 use Rattle.fm_algebra.proofs.Images.{image_mul, image_twist, image_columns}
-use Rattle.fm_limit.specs.DirectSystem.{Degree, IsCocycle, IsKilledBy, IsZeroInLimit}
+use Rattle.fm_limit.specs.DirectSystem.{Degree, IsCoboundary, moved, IsKilledBy, IsZeroInLimit}
 use Rattle.fm_limit.specs.Limit.{VanishesInverting, Annihilates, IsEnough, IsSupportIdeal}
 use Rattle.fm_limit.proofs.Chains.{rising}
-use Rattle.fm_limit.proofs.Moves.{Moves, Computed, coords, is_class, killed_exactly, to_stable, zero_exactly}
+use Rattle.fm_limit.proofs.Moves.{Moves, Computed, coboundaries_moves, moved_more, coords, is_class, killed_exactly, to_stable, zero_exactly}
 
 -- one bound for finitely many
 pub bounded : (n : ℕ) (P : ℕ → ℕ → Type 0) → ((c k j : ℕ) → P c k → P c (k + j)) → ((c : ℕ) → c < n → (k : ℕ) × P c k)
@@ -69,6 +70,17 @@ module _ {M : Matrices} (L : IsMatrices M) where
       let q : twist e (basis g c b ⊛ a) ≡ basis g c b ⊛ twist e a = twist_mul e (basis g c b) a ∙ ap (λ y. y ⊛ twist e a) (twist_basis e g c b) in
       subst (λ y. InImage M (twist e A) y) q (image_twist L e A (basis g c b ⊛ a) (scalar_all a A h (basis g c b))))
 
+  -- what a power does, so does a higher one
+  pub scalar_more : (f : Mat 1 1) {g k : ℕ} (A : Mat g k) (i j : ℕ) → InImage M A (scalar (pow M f i) g) → InImage M A (scalar (pow M f (i + j)) g)
+  scalar_more f {g} A i j h =
+      scalar_columns (pow M f (i + j)) A (λ c b. subst (λ y. InImage M A y) (assoc (basis g c b) (pow M f i) (pow M f j) ∙ ap (λ y. basis g c b ⊛ y) (sym (pow_add f i j))) (image_mul L A (basis g c b ⊛ pow M f i) (pow M f j) (scalar_all (pow M f i) A h (basis g c b))))
+
+  -- what s moves kill, more moves kill
+  pub killed_more : {D : Degree M} → Moves M D → (s m e : ℕ) (z : Mat D.mid 1) → IsKilledBy M D s e z → IsKilledBy M D (s + m) e z
+  killed_more {D} H s m e z h =
+      let q : (e + s) + m ≡ e + (s + m) = omega arith in
+      subst (λ v. IsCoboundary M D (e + (s + m)) v) (sym (moved_more L D s m e z)) (subst (λ x. IsCoboundary M D x (moved M D m (e + s) (moved M D s e z))) q (coboundaries_moves L H m (e + s) (moved M D s e z) h))
+
   module _ (F : Flat M) {D : Degree M} (H : Moves M D) (X : Computed M D) where
     -- ---- the least number of moves
     pub stable_enough : IsEnough M D X.t
@@ -81,11 +93,11 @@ module _ {M : Matrices} (L : IsMatrices M) where
     enough_stable s f v = (
       rising L X.chain s v,
       λ h.
-        let k : InImage M (twist zero (X.K X.t)) v = subst (λ y. InImage M y v) (sym (twist_none (X.K X.t))) (to_stable L F H X (suc s) v h) in
-        let z : Mat D.mid 1 = twist zero X.Z ⊛ v in
-        let i : IsZeroInLimit M D zero z = (zero_exactly L F H X zero v).1 k in
-        let j : IsKilledBy M D s zero z = f z (is_class L F H X zero v) i in
-        subst (λ y. InImage M y v) (twist_none (X.K s)) ((killed_exactly L F H X s zero v).0 j),
+          let k : InImage M (twist zero (X.K X.t)) v = subst (λ y. InImage M y v) (sym (twist_none (X.K X.t))) (to_stable L F H X (suc s) v h) in
+          let z : Mat D.mid 1 = twist zero X.Z ⊛ v in
+          let i : IsZeroInLimit M D zero z = (zero_exactly L F H X zero v).1 k in
+          let j : IsKilledBy M D s zero z = f z (is_class L F H X zero v) i in
+          subst (λ y. InImage M y v) (twist_none (X.K s)) ((killed_exactly L F H X s zero v).0 j),
     )
 
     -- if no member before t repeats, t is the least number of moves that is enough
@@ -102,13 +114,13 @@ module _ {M : Matrices} (L : IsMatrices M) where
     pub annihilates_exactly : (a : Mat 1 1) → InImage M (X.K X.t) (scalar a X.g) ↔ Annihilates M D a
     annihilates_exactly a = (
       λ h z c.
-        let w = coords L F H X zero z c in
-        let k : InImage M (twist zero (X.K X.t)) (w.0 ⊛ a) = subst (λ y. InImage M y (w.0 ⊛ a)) (sym (twist_none (X.K X.t))) (scalar_all a (X.K X.t) h w.0) in
-        subst (λ y. IsZeroInLimit M D zero y) (sym (assoc (twist zero X.Z) w.0 a) ∙ ap (λ y. y ⊛ a) w.1) ((zero_exactly L F H X zero (w.0 ⊛ a)).1 k),
+          let w = coords L F H X zero z c in
+          let k : InImage M (twist zero (X.K X.t)) (w.0 ⊛ a) = subst (λ y. InImage M y (w.0 ⊛ a)) (sym (twist_none (X.K X.t))) (scalar_all a (X.K X.t) h w.0) in
+          subst (λ y. IsZeroInLimit M D zero y) (sym (assoc (twist zero X.Z) w.0 a) ∙ ap (λ y. y ⊛ a) w.1) ((zero_exactly L F H X zero (w.0 ⊛ a)).1 k),
       λ f. scalar_columns a (X.K X.t) (λ c h.
-        let b : Mat X.g 1 = basis X.g c h in
-        let i : IsZeroInLimit M D zero (twist zero X.Z ⊛ (b ⊛ a)) = subst (λ y. IsZeroInLimit M D zero y) (assoc (twist zero X.Z) b a) (f (twist zero X.Z ⊛ b) (is_class L F H X zero b)) in
-        subst (λ y. InImage M y (b ⊛ a)) (twist_none (X.K X.t)) ((zero_exactly L F H X zero (b ⊛ a)).0 i)),
+          let b : Mat X.g 1 = basis X.g c h in
+          let i : IsZeroInLimit M D zero (twist zero X.Z ⊛ (b ⊛ a)) = subst (λ y. IsZeroInLimit M D zero y) (assoc (twist zero X.Z) b a) (f (twist zero X.Z ⊛ b) (is_class L F H X zero b)) in
+          subst (λ y. InImage M y (b ⊛ a)) (twist_none (X.K X.t)) ((zero_exactly L F H X zero (b ⊛ a)).0 i)),
     )
 
     module _ (p : ℕ) (power : IsPower M p) (f : Mat 1 1) where
@@ -174,6 +186,14 @@ module _ {M : Matrices} (L : IsMatrices M) where
       λ e. scalar_columns (pow M f j) A (λ c h. (colon_exact j b (basis g c h)).0 (e (basis g c h))),
       λ h w. (colon_exact j b w).1 (scalar_all (pow M f j) A h w),
     )
+
+    -- the colons rise
+    pub colon_rises : (w : Mat g 1) → InImage M (colon k) w → InImage M (colon (suc k)) w
+    colon_rises w h =
+        let bk : k ≤ suc k = omega arith in
+        let bs : suc k ≤ suc k = omega arith in
+        let q : k + 1 ≡ suc k = omega arith in
+        (colon_exact (suc k) bs w).1 (subst (λ x. InImage M A (w ⊛ pow M f x)) q (further w k 1 ((colon_exact k bk w).0 h)))
 
     pub colon_down : SameImage M (colon k) (colon (suc k)) → (n : ℕ) (w : Mat g 1) → InImage M A (w ⊛ pow M f (k + n)) → InImage M A (w ⊛ pow M f k)
     colon_down rep zero w h = subst (λ x. InImage M A (w ⊛ pow M f x)) (add-zero k) h

@@ -1,5 +1,5 @@
 -- What is asked of the limit: vanishing, induced maps, roots and support ideals.
-use Rattle.std.specs.Prelude.{ℕ, zero, ◌≤◌, ◌↔◌}
+use Rattle.std.specs.Prelude.{ℕ, zero, ◌↔◌}
 use Rattle.fm_algebra.specs.Matrices.{Matrices}
 use Rattle.fm_algebra.specs.Image.{InImage, pow}
 use Rattle.fm_limit.specs.DirectSystem.{Degree, IsCocycle, IsCoboundary, moved, IsKilledBy, IsZeroInLimit, IsSameInLimit}

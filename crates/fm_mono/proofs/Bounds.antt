@@ -1,7 +1,8 @@
 -- Tuples within the bound, place by place
-use Rattle.std.proofs.Common.{ℕ, zero, suc, ◌+◌, ◌*◌, ◌<◌, ◌≤◌, ◌≡◌, true, false, min, nat_le, List, [], ◌∷◌, length, get_or, refl, sym, ap, ap₂, ◌∙◌, arith, subst, map, sum, ◌&&◌, inl, inr, max, ◌-◌, replicate, Some, None, if◌then◌else◌}
+use Rattle.std.proofs.Common.{ℕ, zero, suc, ◌+◌, ◌*◌, ◌<◌, ◌≤◌, ◌≡◌, true, false, min, nat_le, List, [], ◌∷◌, length, get_or, refl, sym, ap, ap₂, ◌∙◌, arith, subst, map, sum, ◌&&◌, inl, inr, max, ◌-◌, replicate, Some, None, if◌then◌else◌, take}
 use Rattle.std.proofs.lemmas.Bool.{and_parts, and_from, leb-true, le-leb, lt-leb, cases_lt}
 use Rattle.std.proofs.lemmas.List.{length-map}
+use Rattle.std.proofs.lemmas.List.Sums.{sum_by_more_le}
 use Rattle.std.proofs.lemmas.List.Folds.{list_all_at}
 use Rattle.fm_tuple.specs.Tuple.{entrywise, tuple_difference, tuple_maximum, tuple_multiple}
 use Rattle.fm_tuple.proofs.TupleEntries.{length_entrywise, get_or_entrywise, get_or_map, sum_cons, sum_tuple_multiple, get_or_below_sum}
@@ -53,6 +54,10 @@ sum_within (i ∷ a) within =
     let head : i ≤ EXPONENT_BOUND = leb-true i EXPONENT_BOUND parts.0 in
     let rest : sum a ≤ length a * EXPONENT_BOUND = sum_within a parts.1 in
     omega (arith, sum_cons i a)
+
+-- the sum of the entries before a place, with the entry there, is within the sum of all
+pub sum_so_far : (a : List ℕ) (k : ℕ) → k < length a → sum (take k a) + get_or a k 0 ≤ sum a
+sum_so_far a k below = sum_by_more_le (λ i. i) a k 0 below
 
 -- a tuple whose total degree is within the bound
 pub within_from_sum : (a : List ℕ) → sum a ≤ EXPONENT_BOUND → is_bounded a ≡ true

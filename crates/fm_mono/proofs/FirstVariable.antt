@@ -12,7 +12,7 @@ decided Less s differ = refl
 decided Equal s differ = absurd (differ refl)
 decided Greater s differ = refl
 
-tied : (i j : ℕ) (s : Ordering) → i ≡ j → ordering_then (nat_cmp i j) s ≡ s
+pub tied : (i j : ℕ) (s : Ordering) → i ≡ j → ordering_then (nat_cmp i j) s ≡ s
 tied i j s same = ap (λ k. ordering_then (nat_cmp i k) s) (sym same) ∙ ap (λ r. ordering_then r s) (tied_itself nat_cmp_total i)
 
 -- the first place that differs decides

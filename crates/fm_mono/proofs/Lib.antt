@@ -4,3 +4,4 @@ pub mod Bounds
 pub mod Packing
 pub mod FirstVariable
 pub mod LastVariable
+pub mod OrderWords

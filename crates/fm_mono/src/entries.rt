@@ -8,10 +8,15 @@ use crate::exponent::{EXPONENT_BOUND, Exponent};
 use std::cmp::Ordering;
 
 pub fn total(a: &[Exponent]) -> u32
-    requires { length a.now ≤ 8 }
+    requires few { length a.now ≤ 8 }
+    requires within { is_bounded a.now ≡ true }
     ensures { result ≡ sum a.now }
 {
-    a.iter().map(|x| u32::from(*x)).sum()
+    let mut sum = 0;
+    for k in 0..a.len() {
+        sum += u32::from(a[k]);
+    }
+    sum
 }
 
 // Writes the sums, and says whether all are within the bound.

@@ -6,6 +6,8 @@ pub mod exponent;
 pub mod laws;
 pub mod mono;
 pub mod order;
+#[cfg(test)]
+mod tests;
 
 pub use exponent::{EXPONENT_BOUND, Exponent};
 pub use mono::Mono;

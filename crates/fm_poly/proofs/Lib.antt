@@ -1,3 +1,8 @@
+pub mod Cutting
+pub mod Decimals
+pub mod PrintedFactors
+pub mod PrintedPolys
+pub mod PrintingSteps
 pub mod OrderedTerms
 pub mod MergeSteps
 pub mod CollectSteps
@@ -7,3 +12,6 @@ pub mod BoundSteps
 pub mod PowerSteps
 pub mod TwistSteps
 pub mod KeptTerms
+pub mod PieceSteps
+pub mod SpellingSteps
+pub mod LargeProducts

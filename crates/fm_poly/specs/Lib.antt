@@ -1,3 +1,6 @@
 pub mod Bounds
 pub mod Polys
+pub mod Printing
+pub mod Spelling
 pub mod Steps
+pub mod Texts

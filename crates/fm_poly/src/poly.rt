@@ -1,5 +1,5 @@
 // Polynomials.
-ghost use Rattle.std.specs.Prelude.{All, IfOk, IsErrOf, OnOk, [], ◌<◌, ◌≡◌, ◌≤◌};
+ghost use Rattle.std.specs.Prelude.{All, IfOk, IsErrOf, OnOk, [], length, map, string_bytes, ◌++◌, ◌<◌, ◌≡◌, ◌≤◌};
 ghost use Rattle.fm_gfp.specs.Primes.{prime_value};
 ghost use Rattle.fm_algebra.specs.Polynomials.{
   frobenius_twist,
@@ -16,11 +16,14 @@ ghost use Rattle.fm_poly.specs.Bounds.{
   TwistFits,
   TwistPasses,
 };
-ghost use Rattle.fm_poly.specs.Polys.{IsCanonical, IsTermOf, meaning};
+ghost use Rattle.fm_poly.specs.Polys.{IsCanonical, IsTermOf, meaning, pairs};
+ghost use Rattle.fm_poly.specs.Printing.{Extends};
+ghost use Rattle.fm_poly.specs.Texts.{poly_text};
 
 use crate::collecting::collect;
 use crate::merging::merge;
 use crate::multiplying::{power_of, times};
+use crate::printing::push_terms;
 use crate::scaling::multiple_of;
 use crate::twisting::twist_of;
 use crate::{PolyError, Ring, Term};
@@ -102,8 +105,8 @@ impl Poly {
     pub fn add(&self, alloc: Global, b: &Poly) -> Result<Poly, AllocError>
         requires { self.now.ring ≡ b.now.ring }
         ensures ring { IfOk result (λ f. f.ring ≡ self.now.ring) }
-        ensures sum { IfOk result (λ f. meaning self.now.ring f.terms
-            ≡ polynomial_sum self.now.ring.prime self.now.ring.vars (meaning self.now.ring self.now.terms) (meaning self.now.ring b.now.terms)) }
+        ensures sum { let r = self.now.ring in IfOk result (λ f.
+            meaning r f.terms ≡ polynomial_sum r.prime r.vars (meaning r self.now.terms) (meaning r b.now.terms)) }
     {
         let terms = merge(alloc, self.ring, &self.terms, &b.terms)?;
         Ok(Poly {
@@ -116,8 +119,8 @@ impl Poly {
     pub fn scale(&self, alloc: Global, c: Gf) -> Result<Poly, AllocError>
         requires { c < prime_value self.now.ring.prime }
         ensures ring { IfOk result (λ f. f.ring ≡ self.now.ring) }
-        ensures multiple { IfOk result (λ f. meaning self.now.ring f.terms
-            ≡ polynomial_multiple self.now.ring.prime self.now.ring.vars c (meaning self.now.ring self.now.terms)) }
+        ensures multiple { let r = self.now.ring in IfOk result (λ f.
+            meaning r f.terms ≡ polynomial_multiple r.prime r.vars c (meaning r self.now.terms)) }
     {
         let terms = multiple_of(alloc, self.ring, &self.terms, c)?;
         Ok(Poly {
@@ -129,12 +132,12 @@ impl Poly {
     pub fn mul(&self, alloc: Global, b: &Poly) -> Result<Poly, PolyError>
         requires { self.now.ring ≡ b.now.ring }
         ensures ring { IfOk result (λ f. f.ring ≡ self.now.ring) }
-        ensures product { IfOk result (λ f. meaning self.now.ring f.terms
-            ≡ polynomial_product self.now.ring.prime self.now.ring.vars (meaning self.now.ring self.now.terms) (meaning self.now.ring b.now.terms)) }
-        ensures fits { OnOk result (ProductFits self.now.ring.prime self.now.ring.vars
-            (meaning self.now.ring self.now.terms) (meaning self.now.ring b.now.terms)) }
-        ensures exponent { IsErrOf result PolyError.Exponent → ProductPasses self.now.ring.prime self.now.ring.vars
-            (meaning self.now.ring self.now.terms) (meaning self.now.ring b.now.terms) }
+        ensures product { let r = self.now.ring in IfOk result (λ f.
+            meaning r f.terms ≡ polynomial_product r.prime r.vars (meaning r self.now.terms) (meaning r b.now.terms)) }
+        ensures fits { let r = self.now.ring in
+            OnOk result (ProductFits r.prime r.vars (meaning r self.now.terms) (meaning r b.now.terms)) }
+        ensures exponent { let r = self.now.ring in IsErrOf result PolyError.Exponent
+            → ProductPasses r.prime r.vars (meaning r self.now.terms) (meaning r b.now.terms) }
     {
         let terms = times(alloc, self.ring, &self.terms, &b.terms)?;
         Ok(Poly {
@@ -146,11 +149,11 @@ impl Poly {
     /// The Frobenius twist: each exponent is multiplied by p^e.
     pub fn twist(&self, alloc: Global, e: u8) -> Result<Poly, PolyError>
         ensures ring { IfOk result (λ f. f.ring ≡ self.now.ring) }
-        ensures twist { IfOk result (λ f. meaning self.now.ring f.terms
-            ≡ frobenius_twist self.now.ring.prime self.now.ring.vars e (meaning self.now.ring self.now.terms)) }
-        ensures fits { OnOk result (TwistFits self.now.ring.prime self.now.ring.vars e (meaning self.now.ring self.now.terms)) }
-        ensures exponent { IsErrOf result PolyError.Exponent
-            → TwistPasses self.now.ring.prime self.now.ring.vars e (meaning self.now.ring self.now.terms) }
+        ensures twist { let r = self.now.ring in IfOk result (λ f.
+            meaning r f.terms ≡ frobenius_twist r.prime r.vars e (meaning r self.now.terms)) }
+        ensures fits { let r = self.now.ring in OnOk result (TwistFits r.prime r.vars e (meaning r self.now.terms)) }
+        ensures exponent { let r = self.now.ring in IsErrOf result PolyError.Exponent
+            → TwistPasses r.prime r.vars e (meaning r self.now.terms) }
     {
         let terms = twist_of(alloc, self.ring, &self.terms, e)?;
         Ok(Poly {
@@ -164,16 +167,25 @@ impl Poly {
         requires some { 1 ≤ self.now.ring.vars }
         requires few { self.now.ring.vars ≤ 8 }
         ensures ring { IfOk result (λ f. f.ring ≡ self.now.ring) }
-        ensures power { IfOk result (λ f. meaning self.now.ring f.terms
-            ≡ polynomial_power self.now.ring.prime self.now.ring.vars k (meaning self.now.ring self.now.terms)) }
-        ensures fits { OnOk result (PowerFits self.now.ring.prime self.now.ring.vars k (meaning self.now.ring self.now.terms)) }
-        ensures exponent { IsErrOf result PolyError.Exponent
-            → PowerPasses self.now.ring.prime self.now.ring.vars k (meaning self.now.ring self.now.terms) }
+        ensures power { let r = self.now.ring in IfOk result (λ f.
+            meaning r f.terms ≡ polynomial_power r.prime r.vars k (meaning r self.now.terms)) }
+        ensures fits { let r = self.now.ring in OnOk result (PowerFits r.prime r.vars k (meaning r self.now.terms)) }
+        ensures exponent { let r = self.now.ring in IsErrOf result PolyError.Exponent
+            → PowerPasses r.prime r.vars k (meaning r self.now.terms) }
     {
         let terms = power_of(alloc, self.ring, &self.terms, k)?;
         Ok(Poly {
             ring: self.ring,
             terms,
         })
+    }
+
+    /// Appends the printed form.
+    pub fn text(&self, names: &[String], out: &mut Vec<u8>) -> Result<(), AllocError>
+        requires { length names.now ≡ self.now.ring.vars }
+        ensures ok { OnOk result (out.new.items ≡ out.old.items ++ poly_text (map string_bytes names.now) (pairs self.now.terms)) }
+        ensures prefix { Extends out.old.items out.new.items }
+    {
+        push_terms(names, self.terms(), out)
     }
 }

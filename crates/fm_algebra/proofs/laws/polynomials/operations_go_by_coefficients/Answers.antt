@@ -1,3 +1,4 @@
+use Rattle.fm_algebra.proofs.PolynomialWords.{coefficient_difference}
 use Rattle.fm_algebra.proofs.PolynomialWords.{coefficient_zero, coefficient_one, coefficient_one_elsewhere, coefficient_sum, coefficient_negative, coefficient_multiple, coefficient_product, coefficient_term, coefficient_term_elsewhere, term_other_length}
 use Rattle.fm_algebra.proofs.laws.polynomials.operations_go_by_coefficients.Goals as goal
 
@@ -30,3 +31,6 @@ returns-clause-term_elsewhere c = coefficient_term_elsewhere
 
 pub returns-clause-term_other_length : goal.returns-clause-term_other_length
 returns-clause-term_other_length c = term_other_length
+
+pub returns-clause-difference : goal.returns-clause-difference
+returns-clause-difference c = coefficient_difference

@@ -1,3 +1,4 @@
+use Rattle.fm_algebra.proofs.PolynomialWords.{one_is_a_term, multiple_is_a_product}
 use Rattle.std.proofs.Common.{refl}
 use Rattle.fm_algebra.specs.Polynomials.{polynomial_negative, polynomial_one, polynomial_power, polynomial_product, polynomial_sum, polynomial_zero}
 use Rattle.fm_algebra.specs.Power.{power}
@@ -50,3 +51,9 @@ returns-clause-power_zero c p n f = refl
 pub returns-clause-power_next : goal.returns-clause-power_next
 unfolding polynomial_power power polynomial_product
 returns-clause-power_next c p n k f = refl
+
+pub returns-clause-one_is_a_term : goal.returns-clause-one_is_a_term
+returns-clause-one_is_a_term c = one_is_a_term
+
+pub returns-clause-multiple_is_a_product : goal.returns-clause-multiple_is_a_product
+returns-clause-multiple_is_a_product c = multiple_is_a_product

@@ -1,4 +1,4 @@
-use Rattle.fm_algebra.proofs.SliceSum.{slice_total}
+use Rattle.fm_algebra.proofs.SliceSum.{slice_of_total, slice_total}
 use Rattle.fm_algebra.proofs.TwistWords.{slice_coefficient, same_slices, any_slices, slice_of_sum, slice_of_product}
 use Rattle.fm_algebra.proofs.laws.twists.a_polynomial_is_its_slices.Goals as goal
 
@@ -19,3 +19,6 @@ returns-clause-product c = slice_of_product
 
 pub returns-clause-total : goal.returns-clause-total
 returns-clause-total c = slice_total
+
+pub returns-clause-independent : goal.returns-clause-independent
+returns-clause-independent c = slice_of_total
