@@ -70,6 +70,14 @@ impl Poly {
         Ok(Poly { ring, terms })
     }
 
+    /// The polynomial with these falling terms, which it takes over.
+    pub fn from_canonical(ring: Ring, terms: Vec<Term>) -> Poly
+        requires { IsCanonical ring terms.items }
+        ensures { result ≡ record { ring = ring; terms = terms.items } }
+    {
+        Poly { ring, terms }
+    }
+
     pub fn ring(&self) -> Ring
         ensures { result ≡ self.now.ring }
     {
