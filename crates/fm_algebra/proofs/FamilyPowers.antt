@@ -4,7 +4,8 @@ use Rattle.fm_algebra.specs.Ring.{Ring, IsRing}
 use Rattle.fm_algebra.specs.FiniteSums.{last, finite_sum}
 use Rattle.fm_algebra.specs.Power.{power}
 use Rattle.fm_algebra.specs.Families.{only, Mat, mul, unit, each, element, families}
-use Rattle.fm_algebra.specs.Image.{pow, IsPower}
+use Rattle.fm_algebra.specs.Image.{pow}
+use Rattle.fm_algebra.proofs.Generation.{IsPower}
 use Rattle.fm_algebra.proofs.FiniteSums.{index, where_same}
 
 module _ {R : Ring} (L : IsRing R) (twist : ℕ → R.Carrier → R.Carrier) where

@@ -3,7 +3,8 @@ use Rattle.std.proofs.Common.{ℕ, zero, suc, ◌<◌, ◌≡◌, ◌∙◌, sym
 use Rattle.fm_algebra.specs.Ring.{Ring, IsRing, IsSliced}
 use Rattle.fm_algebra.specs.FiniteSums.{below, last, finite_sum}
 use Rattle.fm_algebra.specs.Families.{only, Mat, delta, mul, each, families}
-use Rattle.fm_algebra.specs.Image.{InImage, Flat}
+use Rattle.fm_algebra.specs.Image.{InImage}
+use Rattle.fm_algebra.proofs.Generation.{Flat}
 use Rattle.fm_algebra.proofs.Algebra.{add_zero, add_cancel}
 use Rattle.fm_algebra.proofs.FiniteSums.{index, sum_ext}
 use Rattle.fm_algebra.proofs.FamilyLaws.{sum_at}

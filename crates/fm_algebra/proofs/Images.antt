@@ -2,7 +2,8 @@
 use Rattle.std.proofs.Common.{ℕ, zero, suc, ◌<◌, ◌≡◌, ◌∙◌, refl, sym, ap, subst, ◌↔◌}
 use Rattle.std.proofs.Math.Numerals.{one-add, add-one}
 use Rattle.fm_algebra.specs.Matrices.{Matrices, IsMatrices}
-use Rattle.fm_algebra.specs.Image.{InImage, Generates, GeneratesKernel, Within, Everything, Flat}
+use Rattle.fm_algebra.specs.Image.{InImage}
+use Rattle.fm_algebra.proofs.Generation.{Generates, GeneratesKernel, Within, Everything, Flat}
 
 module _ {M : Matrices} (L : IsMatrices M) where
   open M use {Mat, ◌⊛◌, ◌⊕◌, neg, nil, unit, flip, basis, twist}

@@ -9,6 +9,7 @@ pub mod FiniteSums
 pub mod Flatness
 pub mod Frobenius
 pub mod Gf
+pub mod Generation
 pub mod Images
 pub mod Lex
 pub mod ListImages

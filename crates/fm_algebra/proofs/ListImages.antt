@@ -4,7 +4,8 @@ use Rattle.std.proofs.lemmas.List.{length-map, length-replicate}
 use Rattle.fm_algebra.specs.Ring.{Ring, IsRing, IsFrobenius, IsSliced}
 use Rattle.fm_algebra.specs.Matrix.{Matrix, cols, IsShaped, entry, apply, product, entrywise, InListImage, InListKernel, InListPreimage}
 use Rattle.fm_algebra.specs.Families.{Mat, mul, each, read, vector, families}
-use Rattle.fm_algebra.specs.Image.{InImage, InKernel, Generates, GeneratesKernel}
+use Rattle.fm_algebra.specs.Image.{InImage, InKernel}
+use Rattle.fm_algebra.proofs.Generation.{Generates, GeneratesKernel}
 use Rattle.fm_algebra.proofs.FamilyLaws.{families_laws, twist_zero}
 use Rattle.fm_algebra.proofs.Tables.{read_injective, read_product, product_shaped, write, write_shaped, read_write, rows_table, cols_table, read_entrywise, length-apply, vector_apply, vector_injective, vector_zero, vector_map, list_of, length-list_of, vector_list_of}
 use Rattle.fm_algebra.proofs.Images.{image_nil, kernel_twist, generates_twist, member_twist, mul_nil}

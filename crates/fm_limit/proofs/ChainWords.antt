@@ -3,34 +3,23 @@ use Rattle.std.proofs.Common.{ℕ, zero, suc, ◌+◌, ◌≡◌, ◌∙◌, ◌
 use Rattle.fm_gfp.specs.declared.prime.Prime.{Prime}
 use Rattle.fm_algebra.specs.Families.{mul, beside, each, read, vector}
 use Rattle.fm_algebra.specs.Image as image
+use Rattle.fm_algebra.proofs.Generation as generation
 use Rattle.fm_algebra.specs.Polynomials.{Polynomial, polynomials, frobenius_twist}
 use Rattle.fm_algebra.specs.PolynomialMatrices.{PolynomialMatrix, HasShape, matrix_product, matrix_beside, matrix_twist, vector_product, InImage}
 use Rattle.fm_algebra.proofs.Images.{columns_within}
-use Rattle.fm_algebra.proofs.Tables.{product_shaped, vector_apply, length-apply}
-use Rattle.fm_algebra.proofs.ListImages.{through, turned, list_image, length_image}
+use Rattle.fm_algebra.proofs.Tables.{vector_apply, length-apply}
+use Rattle.fm_algebra.proofs.ListImages.{through, turned}
 use Rattle.fm_limit.specs.ResolvedIdeal.{ResolvedIdeal, matrix_at, columns_of, IsResolved}
 use Rattle.fm_limit.specs.Classes.{matrices}
 use Rattle.fm_limit.specs.Facts.{ColumnsInImage, PresentsExt, IsWholeChain, steps_of, DegreeFacts, MapFacts}
 use Rattle.fm_limit.proofs.Chains.{Chain, steps, rising, to_repeat, steps_exact, some_steps_exact}
 use Rattle.fm_limit.proofs.Moves.{relations_begin}
 use Rattle.fm_limit.proofs.Induced.{join_begins}
-use Rattle.fm_limit.proofs.FactsRead.{matrices_laws, matrices_flat, product_read, twist_read, twist_fits, preimage_from, columns_from, moves_read, ext_read, facts_read, member}
-use Rattle.fm_limit.proofs.InducedFacts.{beside_read, beside_fits, maps_read, square_read, target_fits, lambda}
+use Rattle.fm_limit.proofs.FactsRead.{matrices_laws, matrices_flat, moves_read, ext_read, facts_read, member}
+use Rattle.fm_limit.proofs.InducedFacts.{maps_read, square_read, target_fits, lambda}
+use Rattle.fm_limit.proofs.MatrixWords.{image_words, image_length, product_read, product_fits, twist_read, twist_fits, beside_read, beside_fits, preimage_from, columns_from}
 
 module _ (p : Prime) (n : ℕ) where
-  pub product_fits : (a b c : ℕ) (A B : PolynomialMatrix p n) → HasShape p n a b A → HasShape p n b c B → HasShape p n a c (matrix_product p n A B)
-  unfolding HasShape matrix_product
-  product_fits a b c A B s t = product_shaped (polynomials p n) a c A B s.0 t.1
-
-  vector_member : (a b : ℕ) (A : PolynomialMatrix p n) (v : List (Polynomial p n)) → HasShape p n a b A → length v ≡ a
-      → InImage p n A v ↔ image.InImage (matrices p n) (read (polynomials p n) a b A) (vector (polynomials p n) a v)
-  unfolding HasShape InImage
-  vector_member a b A v s e = list_image (polynomials p n) (frobenius_twist p n) a b A v s.0 s.1 e
-
-  member_length : (a b : ℕ) (A : PolynomialMatrix p n) (v : List (Polynomial p n)) → HasShape p n a b A → InImage p n A v → length v ≡ a
-  unfolding HasShape InImage
-  member_length a b A v s h = length_image (polynomials p n) (frobenius_twist p n) A v h ∙ s.0
-
   module _ {U : PolynomialMatrix p n} {K : ℕ → PolynomialMatrix p n} (C : IsWholeChain p n U K) where
     abbrev g : ℕ
     g = length U.columns
@@ -43,18 +32,18 @@ module _ (p : Prime) (n : ℕ) where
 
     whole_read : Chain (matrices p n) g u (λ s. length (K s).columns) k
     whole_read = record {
-      begins = subst (λ X. image.InImage (matrices p n) X (mul (polynomials p n) u (k zero))) (twist_read p n 1 g (length (K zero).columns) (K zero) (C.fits zero)) (subst (λ X. image.InImage (matrices p n) (read (polynomials p n) g (length (K zero).columns) (matrix_twist p n 1 (K zero))) X) (product_read p n g g (length (K zero).columns) U (K zero) C.square (C.fits zero)) ((columns_from p n g (length (K zero).columns) (length (K zero).columns) (matrix_twist p n 1 (K zero)) (matrix_product p n U (K zero)) (twist_fits p n 1 g (length (K zero).columns) (K zero) (C.fits zero)) (product_fits g g (length (K zero).columns) U (K zero) C.square (C.fits zero))).0 C.begins));
-      step = λ s. subst (λ X. image.Generates (matrices p n) (k (suc s)) u X) (twist_read p n 1 g (length (K s).columns) (K s) (C.fits s)) (preimage_from p n g g (length (K s).columns) (length (K (suc s)).columns) (K (suc s)) U (matrix_twist p n 1 (K s)) C.square (twist_fits p n 1 g (length (K s).columns) (K s) (C.fits s)) (C.fits (suc s)) (C.step s));
+      begins = subst (λ X. image.InImage (matrices p n) X (mul (polynomials p n) u (k zero))) (twist_read p n 1 g (length (K zero).columns) (K zero) (C.fits zero)) (subst (λ X. image.InImage (matrices p n) (read (polynomials p n) g (length (K zero).columns) (matrix_twist p n 1 (K zero))) X) (product_read p n g g (length (K zero).columns) U (K zero) C.square (C.fits zero)) ((columns_from p n g (length (K zero).columns) (length (K zero).columns) (matrix_twist p n 1 (K zero)) (matrix_product p n U (K zero)) (twist_fits p n 1 g (length (K zero).columns) (K zero) (C.fits zero)) (product_fits p n g g (length (K zero).columns) U (K zero) C.square (C.fits zero))).0 C.begins));
+      step = λ s. subst (λ X. generation.Generates (matrices p n) (k (suc s)) u X) (twist_read p n 1 g (length (K s).columns) (K s) (C.fits s)) (preimage_from p n g g (length (K s).columns) (length (K (suc s)).columns) (K (suc s)) U (matrix_twist p n 1 (K s)) C.square (twist_fits p n 1 g (length (K s).columns) (K s) (C.fits s)) (C.fits (suc s)) (C.step s));
     }
 
     -- the chain rises
     pub rises_words : (s : ℕ) (v : List (Polynomial p n)) → InImage p n (K s) v → InImage p n (K (suc s)) v
     rises_words s v h =
-        let l = member_length g (length (K s).columns) (K s) v (C.fits s) h in
-        (vector_member g (length (K (suc s)).columns) (K (suc s)) v (C.fits (suc s)) l).1 (rising (matrices_laws p n) whole_read s (vector (polynomials p n) g v) ((vector_member g (length (K s).columns) (K s) v (C.fits s) l).0 h))
+        let l = image_length p n g (length (K s).columns) (K s) v (C.fits s) h in
+        (image_words p n g (length (K (suc s)).columns) (K (suc s)) v (C.fits (suc s)) l).1 (rising (matrices_laws p n) whole_read s (vector (polynomials p n) g v) ((image_words p n g (length (K s).columns) (K s) v (C.fits s) l).0 h))
 
     module _ (t : ℕ) (rep : ColumnsInImage p n (K t) (K (suc t))) where
-      same : image.SameImage (matrices p n) (k t) (k (suc t))
+      same : generation.SameImage (matrices p n) (k t) (k (suc t))
       same v = (
         rising (matrices_laws p n) whole_read t v,
         columns_within (matrices_laws p n) (k t) (k (suc t)) ((columns_from p n g (length (K t).columns) (length (K (suc t)).columns) (K t) (K (suc t)) (C.fits t) (C.fits (suc t))).0 rep) v,
@@ -63,8 +52,8 @@ module _ (p : Prime) (n : ℕ) where
       -- from a repeat on the chain is constant
       pub constant_words : (s : ℕ) (v : List (Polynomial p n)) → InImage p n (K s) v → InImage p n (K t) v
       constant_words s v h =
-          let l = member_length g (length (K s).columns) (K s) v (C.fits s) h in
-          (vector_member g (length (K t).columns) (K t) v (C.fits t) l).1 (to_repeat (matrices_laws p n) whole_read t same s (vector (polynomials p n) g v) ((vector_member g (length (K s).columns) (K s) v (C.fits s) l).0 h))
+          let l = image_length p n g (length (K s).columns) (K s) v (C.fits s) h in
+          (image_words p n g (length (K t).columns) (K t) v (C.fits t) l).1 (to_repeat (matrices_laws p n) whole_read t same s (vector (polynomials p n) g v) ((image_words p n g (length (K s).columns) (K s) v (C.fits s) l).0 h))
 
     -- steps of lists
     step_length : (e : ℕ) (w : List (Polynomial p n)) → length (vector_product p n (matrix_twist p n e U) w) ≡ g
@@ -91,7 +80,7 @@ module _ (p : Prime) (n : ℕ) where
     twist_member : (e s : ℕ) (w : List (Polynomial p n)) → length w ≡ g
         → InImage p n (matrix_twist p n e (K s)) w ↔ image.InImage (matrices p n) (each (polynomials p n) (frobenius_twist p n e) (k s)) (vector (polynomials p n) g w)
     twist_member e s w l =
-        subst (λ X. InImage p n (matrix_twist p n e (K s)) w ↔ image.InImage (matrices p n) X (vector (polynomials p n) g w)) (twist_read p n e g (length (K s).columns) (K s) (C.fits s)) (vector_member g (length (K s).columns) (matrix_twist p n e (K s)) w (twist_fits p n e g (length (K s).columns) (K s) (C.fits s)) l)
+        subst (λ X. InImage p n (matrix_twist p n e (K s)) w ↔ image.InImage (matrices p n) X (vector (polynomials p n) g w)) (twist_read p n e g (length (K s).columns) (K s) (C.fits s)) (image_words p n g (length (K s).columns) (matrix_twist p n e (K s)) w (twist_fits p n e g (length (K s).columns) (K s) (C.fits s)) l)
 
     end_member : (s e : ℕ) (w : List (Polynomial p n)) → length w ≡ g
         → InImage p n (matrix_twist p n (e + s) (K zero)) (steps_of p n U s e w) ↔ image.InImage (matrices p n) (each (polynomials p n) (frobenius_twist p n (e + s)) (k zero)) (steps (matrices p n) g u s e (vector (polynomials p n) g w))
@@ -116,7 +105,7 @@ module _ (p : Prime) (n : ℕ) where
       → image.InImage (matrices p n) (each (polynomials p n) (frobenius_twist p n 1) (read (polynomials p n) g k N)) (mul (polynomials p n) (read (polynomials p n) g g U) (read (polynomials p n) g k N))
       → ColumnsInImage p n (matrix_twist p n 1 N) (matrix_product p n U N)
   begins_words g k U N s t h =
-      (columns_from p n g k k (matrix_twist p n 1 N) (matrix_product p n U N) (twist_fits p n 1 g k N t) (product_fits g g k U N s t)).1
+      (columns_from p n g k k (matrix_twist p n 1 N) (matrix_product p n U N) (twist_fits p n 1 g k N t) (product_fits p n g g k U N s t)).1
       (subst (λ X. image.InImage (matrices p n) X (read (polynomials p n) g k (matrix_product p n U N))) (sym (twist_read p n 1 g k N t)) (subst (λ X. image.InImage (matrices p n) (each (polynomials p n) (frobenius_twist p n 1) (read (polynomials p n) g k N)) X) (sym (product_read p n g g k U N s t)) h))
 
   pub relations_words : {i : ℕ} {I : ResolvedIdeal p n} {Z N U : PolynomialMatrix p n} → IsResolved p n i I → PresentsExt p n i I Z N U

@@ -2,9 +2,9 @@
 use Rattle.std.proofs.Common.{ℕ, zero, suc, ◌+◌, ◌<◌, ◌≤◌, ◌≡◌, ◌∙◌, ◌↔◌, ap, subst, arith, List, length}
 use Rattle.fm_gfp.specs.declared.prime.Prime.{Prime}
 use Rattle.fm_algebra.specs.Families.{Mat, mul, each, scalar, read, vector, element}
-use Rattle.fm_algebra.specs.Image.{InImage, SameImage, Generates, pow}
+use Rattle.fm_algebra.specs.Image.{InImage, pow}
+use Rattle.fm_algebra.proofs.Generation.{SameImage, Generates}
 use Rattle.fm_algebra.specs.Polynomials.{Polynomial, polynomials, polynomial_power, frobenius_twist}
-use Rattle.fm_algebra.specs.PolynomialMatrices as words
 use Rattle.fm_algebra.specs.PolynomialMatrices.{PolynomialMatrix, HasShape, matrix_scalar, matrix_twist, vector_product}
 use Rattle.fm_algebra.proofs.Tables.{list_of, length-list_of, vector_list_of, vector_apply, vector_injective, length-apply}
 use Rattle.fm_algebra.proofs.Images.{columns_within}
@@ -14,17 +14,10 @@ use Rattle.fm_limit.specs.Classes.{matrices, length_in, vector_in, IsClass}
 use Rattle.fm_limit.specs.Facts.{ColumnsInImage, IsEverything, AreCoordinates, DegreeFacts, IsColons}
 use Rattle.fm_limit.proofs.Moves.{coords}
 use Rattle.fm_limit.proofs.Vanishing.{colon_everything, colon_rises, colon_never}
-use Rattle.fm_limit.proofs.Reading.{same_read}
-use Rattle.fm_limit.proofs.FactsRead.{matrices_laws, matrices_flat, preimage_from, columns_from, member, moves_read, facts_read, twist_read, twist_fits}
-use Rattle.fm_limit.proofs.Waist.{everything_read, scalar_columns_read, scalar_fits, scalar_read, powers}
+use Rattle.fm_limit.proofs.FactsRead.{matrices_laws, matrices_flat, member, moves_read, facts_read}
+use Rattle.fm_limit.proofs.MatrixWords.{twist_read, twist_fits, scalar_fits, scalar_read, preimage_from, columns_from, same_from, everything_read, scalar_columns_read, powers}
 
 module _ (p : Prime) (n : ℕ) where
-  -- two matrices of lists with one image
-  pub same_from : (m a k : ℕ) (A B : PolynomialMatrix p n) → HasShape p n m a A → HasShape p n m k B
-      → ((v : List (Polynomial p n)) → words.InImage p n A v ↔ words.InImage p n B v) → SameImage (matrices p n) (read (polynomials p n) m a A) (read (polynomials p n) m k B)
-  unfolding HasShape words.InImage
-  same_from m a k A B s t g = same_read (polynomials p n) (frobenius_twist p n) m a k A B s.0 s.1 t.0 t.1 (λ v e. g v)
-
   module _ {K : PolynomialMatrix p n} {f : Polynomial p n} {Cs : List (PolynomialMatrix p n)} {k : ℕ} (shape : HasShape p n K.rows (length K.columns) K) (C : IsColons p n K f Cs k) where
     abbrev g : ℕ
     g = K.rows
@@ -34,7 +27,7 @@ module _ (p : Prime) (n : ℕ) where
 
     first_read : SameImage (matrices p n) (member p n g Cs zero) A
     first_read =
-        same_from g (columns_of p n Cs zero) (length K.columns) (matrix_at p n Cs zero) K (C.fits zero (omega arith)) shape C.first
+        same_from p n g (columns_of p n Cs zero) (length K.columns) (matrix_at p n Cs zero) K (C.fits zero (omega arith)) shape C.first
 
     step_read : (j : ℕ) → j < suc k → Generates (matrices p n) (member p n g Cs (suc j)) (scalar (polynomials p n) (element (polynomials p n) f) g) (member p n g Cs j)
     step_read j b =

@@ -1,12 +1,13 @@
 -- Facts on lists of matrices over GF(p)[x1 .. xn], read as facts of the theory
-use Rattle.std.proofs.Common.{ℕ, zero, suc, ◌<◌, ◌≤◌, ◌≡◌, ◌∙◌, ◌↔◌, min, refl, sym, ap, subst, arith, List, length}
+use Rattle.std.proofs.Common.{ℕ, zero, suc, ◌<◌, ◌≤◌, ◌≡◌, ◌∙◌, min, refl, sym, ap, subst, arith, List, length}
 use Rattle.fm_gfp.specs.Primes.{prime_value}
 use Rattle.fm_gfp.proofs.Residues.{prime_positive}
 use Rattle.fm_gfp.specs.declared.prime.Prime.{Prime}
 use Rattle.fm_algebra.specs.Matrices.{IsMatrices}
-use Rattle.fm_algebra.specs.Matrix.{IsShaped, column_matrix, InListImage}
-use Rattle.fm_algebra.specs.Families.{mul, unit, flip, each, read}
-use Rattle.fm_algebra.specs.Image.{Flat, IsPower, InImage, Generates, GeneratesKernel, SameImage}
+use Rattle.fm_algebra.specs.Matrix.{IsShaped, InListImage}
+use Rattle.fm_algebra.specs.Families.{mul, flip, each, read}
+use Rattle.fm_algebra.specs.Image.{InImage}
+use Rattle.fm_algebra.proofs.Generation.{Flat, IsPower, Generates, GeneratesKernel, SameImage}
 use Rattle.fm_algebra.specs.Polynomials.{Polynomial, polynomials, polynomial_power, frobenius_twist}
 use Rattle.fm_algebra.specs.PolynomialMatrices as words
 use Rattle.fm_algebra.specs.PolynomialMatrices.{PolynomialMatrix, HasShape, matrix_product, matrix_zero, matrix_unit, matrix_transpose, matrix_column, matrix_twist, InKernel, InPreimage}
@@ -15,7 +16,7 @@ use Rattle.fm_algebra.proofs.TwistWords.{power_is_twist}
 use Rattle.fm_algebra.proofs.FamilyLaws.{families_laws}
 use Rattle.fm_algebra.proofs.FamilyPowers.{is_power}
 use Rattle.fm_algebra.proofs.Flatness.{is_flat}
-use Rattle.fm_algebra.proofs.Tables.{read_product, read_transpose, transpose_shaped, read_unit, read_zero, zero_shaped, column_shaped, read_entrywise, entrywise_shaped}
+use Rattle.fm_algebra.proofs.Tables.{read_zero, zero_shaped}
 use Rattle.fm_algebra.proofs.Images.{columns_within}
 use Rattle.fm_limit.specs.Resolution.{rank_before, d_below}
 use Rattle.fm_limit.specs.ResolvedIdeal.{ResolvedIdeal, matrix_at, columns_of, rank, differential, row, InIdeal, IsResolutionOf, IsFrobeniusLiftOf, IsResolved, IsLiftOfIdentityOf}
@@ -25,7 +26,8 @@ use Rattle.fm_limit.proofs.Resolutions.{IsResolution, IsFrobeniusLift, IsLiftOfI
 use Rattle.fm_limit.proofs.Chains.{Chain, rising_to, continued, last_repeats}
 use Rattle.fm_limit.proofs.Moves.{Moves, Ext, Computed, relations_begin}
 use Rattle.fm_limit.proofs.Homotopy.{lift_moves}
-use Rattle.fm_limit.proofs.Reading.{one_entry, generates_kernel_read, generates_read, same_read, columns_read}
+use Rattle.fm_limit.proofs.Reading.{one_entry, generates_kernel_read, same_read}
+use Rattle.fm_limit.proofs.MatrixWords.{shape_columns, product_read, twist_read, twist_fits, transpose_read, transpose_fits, unit_read, row_fits, kernel_from, preimage_from, columns_from}
 
 module _ (p : Prime) (n : ℕ) where
   -- ---- the theory over GF(p)[x1 .. xn]
@@ -40,16 +42,6 @@ module _ (p : Prime) (n : ℕ) where
   matrices_power = is_power (polynomials_laws p n) (frobenius_twist p n) (prime_value p) (λ e f. sym (power_is_twist p n e f))
 
   -- ---- resolutions and lifts
-  row_shaped : (fs : List (Polynomial p n)) → IsShaped (polynomials p n) 1 (length fs) (row p n fs)
-  unfolding row matrix_transpose matrix_column
-  row_shaped fs =
-      let c = column_shaped (polynomials p n) (length fs) fs refl in
-      transpose_shaped (polynomials p n) (length fs) 1 (column_matrix (polynomials p n) fs) c.0 c.1
-
-  pub row_fits : (fs : List (Polynomial p n)) → HasShape p n 1 (length fs) (row p n fs)
-  unfolding HasShape
-  row_fits fs = row_shaped fs
-
   pub fits_at : {gens : List (Polynomial p n)} {i : ℕ} {ds : List (PolynomialMatrix p n)} → IsResolutionOf p n gens i ds → (j : ℕ) → j ≤ i
       → IsShaped (polynomials p n) (rank p n ds j) (columns_of p n ds j) (matrix_at p n ds j)
   unfolding HasShape
@@ -57,70 +49,42 @@ module _ (p : Prime) (n : ℕ) where
 
   pub resolution_read : {gens : List (Polynomial p n)} {i : ℕ} {ds : List (PolynomialMatrix p n)} → IsResolutionOf p n gens i ds
       → IsResolution (matrices p n) (length gens) (read (polynomials p n) 1 (length gens) (row p n gens)) i (complex_of p n ds)
-  unfolding InIdeal words.InImage InKernel
+  unfolding HasShape InIdeal words.InImage InKernel
   resolution_read {gens} {i} {ds} r = record {
     generators =
         let s = fits_at r zero (omega arith) in
-        same_read (polynomials p n) (frobenius_twist p n) 1 (columns_of p n ds zero) (length gens) (matrix_at p n ds zero) (row p n gens) s.0 refl (row_shaped gens).0 (row_shaped gens).1 (one_entry (InListImage (polynomials p n) (matrix_at p n ds zero)) (InListImage (polynomials p n) (row p n gens)) r.first);
+        same_read (polynomials p n) (frobenius_twist p n) 1 (columns_of p n ds zero) (length gens) (matrix_at p n ds zero) (row p n gens) s.0 refl (row_fits p n gens).0 (row_fits p n gens).1 (one_entry (InListImage (polynomials p n) (matrix_at p n ds zero)) (InListImage (polynomials p n) (row p n gens)) r.first);
     exact = λ j b.
         let s = fits_at r j (omega arith) in
         let t = fits_at r (suc j) (omega arith) in
         generates_kernel_read (polynomials p n) (frobenius_twist p n) (rank p n ds j) (columns_of p n ds j) (columns_of p n ds (suc j)) (matrix_at p n ds (suc j)) (matrix_at p n ds j) s.0 refl t.0 refl (r.exact j b);
   }
 
-  -- a product of matrices of lists, read
-  pub product_read : (a b c : ℕ) (A B : PolynomialMatrix p n) → HasShape p n a b A → HasShape p n b c B
-      → read (polynomials p n) a c (matrix_product p n A B) ≡ mul (polynomials p n) (read (polynomials p n) a b A) (read (polynomials p n) b c B)
-  unfolding HasShape matrix_product
-  product_read a b c A B s t = read_product (polynomials p n) a b c A B s.0 s.1 t.1
-
-  pub twist_read : (e a b : ℕ) (A : PolynomialMatrix p n) → HasShape p n a b A
-      → read (polynomials p n) a b (matrix_twist p n e A) ≡ each (polynomials p n) (frobenius_twist p n e) (read (polynomials p n) a b A)
-  unfolding HasShape matrix_twist
-  twist_read e a b A s = read_entrywise (polynomials p n) (frobenius_twist p n e) a b A s.0 s.1
-
-  pub twist_fits : (e a b : ℕ) (A : PolynomialMatrix p n) → HasShape p n a b A → HasShape p n a b (matrix_twist p n e A)
-  unfolding HasShape matrix_twist
-  twist_fits e a b A s = entrywise_shaped (polynomials p n) (frobenius_twist p n e) a b A s.0 s.1
-
-  pub transpose_read : (a b : ℕ) (A : PolynomialMatrix p n) → HasShape p n a b A
-      → read (polynomials p n) b a (matrix_transpose p n A) ≡ flip (polynomials p n) (read (polynomials p n) a b A)
-  unfolding HasShape matrix_transpose
-  transpose_read a b A s = read_transpose (polynomials p n) a b A s.0 s.1
-
-  pub transpose_fits : (a b : ℕ) (A : PolynomialMatrix p n) → HasShape p n a b A → HasShape p n b a (matrix_transpose p n A)
-  unfolding HasShape matrix_transpose
-  transpose_fits a b A s = transpose_shaped (polynomials p n) a b A s.0 s.1
-
-  pub unit_read : (a : ℕ) → read (polynomials p n) a a (matrix_unit p n a) ≡ unit (polynomials p n) a
-  unfolding matrix_unit
-  unit_read a = read_unit (polynomials p n) a
-
   pub frobenius_read : {gens : List (Polynomial p n)} {i : ℕ} {ds ts : List (PolynomialMatrix p n)} → IsResolutionOf p n gens i ds → IsFrobeniusLiftOf p n i ds ts
       → IsFrobeniusLift (matrices p n) i (complex_of p n ds) (theta_of p n ds ts)
   frobenius_read {gens} {i} {ds} {ts} r f = record {
-    first = ap (read (polynomials p n) 1 1) f.first ∙ unit_read 1;
+    first = ap (read (polynomials p n) 1 1) f.first ∙ unit_read p n 1;
     square = λ j b.
         let c = f.count in
         let e = r.count in
         let d = r.fits j (omega arith) in
-        sym (product_read (rank p n ds j) (columns_of p n ds j) (columns_of p n ds j) (matrix_at p n ds j) (matrix_at p n ts (suc j)) d (f.fits (suc j) (omega arith)))
+        sym (product_read p n (rank p n ds j) (columns_of p n ds j) (columns_of p n ds j) (matrix_at p n ds j) (matrix_at p n ts (suc j)) d (f.fits (suc j) (omega arith)))
         ∙ ap (read (polynomials p n) (rank p n ds j) (columns_of p n ds j)) (f.square j b)
-        ∙ product_read (rank p n ds j) (rank p n ds j) (columns_of p n ds j) (matrix_at p n ts j) (matrix_twist p n 1 (matrix_at p n ds j)) (f.fits j (omega arith)) (twist_fits 1 (rank p n ds j) (columns_of p n ds j) (matrix_at p n ds j) d)
-        ∙ ap (λ X. mul (polynomials p n) (read (polynomials p n) (rank p n ds j) (rank p n ds j) (matrix_at p n ts j)) X) (twist_read 1 (rank p n ds j) (columns_of p n ds j) (matrix_at p n ds j) d);
+        ∙ product_read p n (rank p n ds j) (rank p n ds j) (columns_of p n ds j) (matrix_at p n ts j) (matrix_twist p n 1 (matrix_at p n ds j)) (f.fits j (omega arith)) (twist_fits p n 1 (rank p n ds j) (columns_of p n ds j) (matrix_at p n ds j) d)
+        ∙ ap (λ X. mul (polynomials p n) (read (polynomials p n) (rank p n ds j) (rank p n ds j) (matrix_at p n ts j)) X) (twist_read p n 1 (rank p n ds j) (columns_of p n ds j) (matrix_at p n ds j) d);
   }
 
   pub identity_read : {f g : List (Polynomial p n)} {i : ℕ} {ds us ls : List (PolynomialMatrix p n)} → IsResolutionOf p n f i ds → IsResolutionOf p n g i us → IsLiftOfIdentityOf p n i ds us ls
       → IsLiftOfIdentity (matrices p n) i (complex_of p n ds) (complex_of p n us) (lambda_of p n ds us ls)
   identity_read {f} {g} {i} {ds} {us} {ls} r s l = record {
-    first = ap (read (polynomials p n) 1 1) l.first ∙ unit_read 1;
+    first = ap (read (polynomials p n) 1 1) l.first ∙ unit_read p n 1;
     square = λ j b.
         let c = l.count in
         let e = r.count in
         let k = s.count in
-        sym (product_read (rank p n us j) (columns_of p n us j) (columns_of p n ds j) (matrix_at p n us j) (matrix_at p n ls (suc j)) (s.fits j (omega arith)) (l.fits (suc j) (omega arith)))
+        sym (product_read p n (rank p n us j) (columns_of p n us j) (columns_of p n ds j) (matrix_at p n us j) (matrix_at p n ls (suc j)) (s.fits j (omega arith)) (l.fits (suc j) (omega arith)))
         ∙ ap (read (polynomials p n) (rank p n us j) (columns_of p n ds j)) (l.square j b)
-        ∙ product_read (rank p n us j) (rank p n ds j) (columns_of p n ds j) (matrix_at p n ls j) (matrix_at p n ds j) (l.fits j (omega arith)) (r.fits j (omega arith));
+        ∙ product_read p n (rank p n us j) (rank p n ds j) (columns_of p n ds j) (matrix_at p n ls j) (matrix_at p n ds j) (l.fits j (omega arith)) (r.fits j (omega arith));
   }
 
   -- what moves rest on
@@ -144,16 +108,6 @@ module _ (p : Prime) (n : ℕ) where
       go zero f = zero_shaped (polynomials p n) zero 1
       go (suc j) f = f j (omega arith)
 
-  kernel_from : (m a l : ℕ) (C A : PolynomialMatrix p n) → HasShape p n m a A → HasShape p n a l C → words.GeneratesKernel p n C A
-      → GeneratesKernel (matrices p n) (read (polynomials p n) a l C) (read (polynomials p n) m a A)
-  unfolding HasShape words.InImage InKernel
-  kernel_from m a l C A s t g = generates_kernel_read (polynomials p n) (frobenius_twist p n) m a l C A s.0 s.1 t.0 t.1 g
-
-  pub preimage_from : (m a k l : ℕ) (C A B : PolynomialMatrix p n) → HasShape p n m a A → HasShape p n m k B → HasShape p n a l C → words.GeneratesPreimage p n C A B
-      → Generates (matrices p n) (read (polynomials p n) a l C) (read (polynomials p n) m a A) (read (polynomials p n) m k B)
-  unfolding HasShape words.InImage InPreimage
-  preimage_from m a k l C A B s t u g = generates_read (polynomials p n) (frobenius_twist p n) m a k l C A B s.0 s.1 t.0 t.1 u.0 u.1 g
-
   pub ext_read : {i : ℕ} {I : ResolvedIdeal p n} {Z N U : PolynomialMatrix p n} → IsResolved p n i I → PresentsExt p n i I Z N U
       → Ext (matrices p n) (degree_in p n i I) (length Z.columns) (length N.columns) (read (polynomials p n) (length_in p n i I) (length Z.columns) Z) (read (polynomials p n) (length Z.columns) (length N.columns) N) (read (polynomials p n) (length Z.columns) (length Z.columns) U)
   ext_read {i} {I} {Z} {N} {U} r x =
@@ -169,9 +123,9 @@ module _ (p : Prime) (n : ℕ) where
       let tf = (r.frobenius).fits i (let c = (r.frobenius).count in omega arith) in
       let bf = below_fits r.resolution in
       record {
-        cocycles = subst (λ X. GeneratesKernel (matrices p n) (read (polynomials p n) a g Z) X) (transpose_read a high d df) (kernel_from high a g Z (matrix_transpose p n d) (transpose_fits a high d df) x.cocycles_fit x.cocycles);
-        relations = subst (λ X. Generates (matrices p n) (read (polynomials p n) g k N) (read (polynomials p n) a g Z) X) (transpose_read low a (differential p n ds i) bf ∙ ap (flip (polynomials p n) {m = low} {n = a}) (below_read ds i)) (preimage_from a g low k N Z (matrix_transpose p n (differential p n ds i)) x.cocycles_fit (transpose_fits low a (differential p n ds i) bf) x.relations_fit x.relations);
-        morphism = ap (λ X. mul (polynomials p n) X (read (polynomials p n) a g Z)) (sym (transpose_read a a t tf)) ∙ sym (product_read a a g (matrix_transpose p n t) Z (transpose_fits a a t tf) x.cocycles_fit) ∙ ap (read (polynomials p n) a g) x.morphism ∙ product_read a g g (matrix_twist p n 1 Z) U (twist_fits 1 a g Z x.cocycles_fit) x.morphism_fits ∙ ap (λ X. mul (polynomials p n) X (read (polynomials p n) g g U)) (twist_read 1 a g Z x.cocycles_fit);
+        cocycles = subst (λ X. GeneratesKernel (matrices p n) (read (polynomials p n) a g Z) X) (transpose_read p n a high d df) (kernel_from p n high a g Z (matrix_transpose p n d) (transpose_fits p n a high d df) x.cocycles_fit x.cocycles);
+        relations = subst (λ X. Generates (matrices p n) (read (polynomials p n) g k N) (read (polynomials p n) a g Z) X) (transpose_read p n low a (differential p n ds i) bf ∙ ap (flip (polynomials p n) {m = low} {n = a}) (below_read ds i)) (preimage_from p n a g low k N Z (matrix_transpose p n (differential p n ds i)) x.cocycles_fit (transpose_fits p n low a (differential p n ds i) bf) x.relations_fit x.relations);
+        morphism = ap (λ X. mul (polynomials p n) X (read (polynomials p n) a g Z)) (sym (transpose_read p n a a t tf)) ∙ sym (product_read p n a a g (matrix_transpose p n t) Z (transpose_fits p n a a t tf) x.cocycles_fit) ∙ ap (read (polynomials p n) a g) x.morphism ∙ product_read p n a g g (matrix_twist p n 1 Z) U (twist_fits p n 1 a g Z x.cocycles_fit) x.morphism_fits ∙ ap (λ X. mul (polynomials p n) X (read (polynomials p n) g g U)) (twist_read p n 1 a g Z x.cocycles_fit);
       }
 
   -- ---- chains
@@ -179,22 +133,13 @@ module _ (p : Prime) (n : ℕ) where
   abbrev pub member : (g : ℕ) (Ks : List (PolynomialMatrix p n)) (s : ℕ) → (matrices p n).Mat g (columns_of p n Ks s)
   member g Ks s = read_at p n g (columns_of p n Ks s) Ks s
 
-  shape_columns : (a b : ℕ) (A : PolynomialMatrix p n) → HasShape p n a b A → length A.columns ≡ b
-  unfolding HasShape
-  shape_columns a b A s = s.1
-
-  pub columns_from : (m a k : ℕ) (A B : PolynomialMatrix p n) → HasShape p n m a A → HasShape p n m k B
-      → ColumnsInImage p n A B ↔ InImage (matrices p n) (read (polynomials p n) m a A) (read (polynomials p n) m k B)
-  unfolding HasShape words.InImage
-  columns_from m a k A B s t = columns_read (polynomials p n) (frobenius_twist p n) (polynomials_laws p n) (polynomials_frobenius p n) m a k A B s.0 s.1 t
-
   -- the first members of a chain
   pub shorter : {U : PolynomialMatrix p n} {Ks : List (PolynomialMatrix p n)} {t : ℕ} → IsChain p n U Ks (suc t) → IsChain p n U Ks t
   shorter C = record { fits = λ s b. C.fits s (omega arith); step = λ s b. C.step s (omega arith) }
 
   module _ (g : ℕ) {U : PolynomialMatrix p n} {Ks : List (PolynomialMatrix p n)} {t : ℕ} (shape : HasShape p n g g U) (C : IsChain p n U Ks t) where
     pub member_fits : (s : ℕ) → s ≤ t → HasShape p n g (columns_of p n Ks s) (matrix_at p n Ks s)
-    member_fits s b = subst (λ x. HasShape p n x (columns_of p n Ks s) (matrix_at p n Ks s)) (shape_columns g g U shape) (C.fits s b)
+    member_fits s b = subst (λ x. HasShape p n x (columns_of p n Ks s) (matrix_at p n Ks s)) (shape_columns p n g g U shape) (C.fits s b)
 
     pub step_read : (s : ℕ) → s < t
         → Generates (matrices p n) (member g Ks (suc s)) (read (polynomials p n) g g U) (each (polynomials p n) (frobenius_twist p n 1) (member g Ks s))
@@ -202,8 +147,8 @@ module _ (p : Prime) (n : ℕ) where
         let f = member_fits s (omega arith) in
         let h = member_fits (suc s) b in
         let k = columns_of p n Ks s in
-        subst (λ X. Generates (matrices p n) (member g Ks (suc s)) (read (polynomials p n) g g U) X) (twist_read 1 g k (matrix_at p n Ks s) f)
-        (preimage_from g g k (columns_of p n Ks (suc s)) (matrix_at p n Ks (suc s)) U (matrix_twist p n 1 (matrix_at p n Ks s)) shape (twist_fits 1 g k (matrix_at p n Ks s) f) h (C.step s b))
+        subst (λ X. Generates (matrices p n) (member g Ks (suc s)) (read (polynomials p n) g g U) X) (twist_read p n 1 g k (matrix_at p n Ks s) f)
+        (preimage_from p n g g k (columns_of p n Ks (suc s)) (matrix_at p n Ks (suc s)) U (matrix_twist p n 1 (matrix_at p n Ks s)) shape (twist_fits p n 1 g k (matrix_at p n Ks s) f) h (C.step s b))
 
     -- the chain goes on with K_t
     pub chain_read : InImage (matrices p n) (each (polynomials p n) (frobenius_twist p n 1) (member g Ks zero)) (mul (polynomials p n) (read (polynomials p n) g g U) (member g Ks zero))
@@ -224,7 +169,7 @@ module _ (p : Prime) (n : ℕ) where
         let f = member_fits g shape C t (omega arith) in
         let h = member_fits g shape C (suc t) (omega arith) in (
           rising_to matrices_laws t begins (step_read g shape C) t (omega arith) v,
-          columns_within matrices_laws (member g Ks t) (member g Ks (suc t)) ((columns_from g (columns_of p n Ks t) (columns_of p n Ks (suc t)) (matrix_at p n Ks t) (matrix_at p n Ks (suc t)) f h).0 repeats) v,
+          columns_within matrices_laws (member g Ks t) (member g Ks (suc t)) ((columns_from p n g (columns_of p n Ks t) (columns_of p n Ks (suc t)) (matrix_at p n Ks t) (matrix_at p n Ks (suc t)) f h).0 repeats) v,
         )
 
     -- a chain through its repeat

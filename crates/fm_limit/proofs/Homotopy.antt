@@ -2,7 +2,8 @@
 use Rattle.std.proofs.Common.{ℕ, zero, suc, ◌*◌, ◌^◌, ◌<◌, ◌≤◌, ◌≡◌, ◌∙◌, refl, sym, ap, subst, arith, ◌↔◌}
 use Rattle.std.proofs.Math.Nat.{pow-suc, pow-zero, one-mul}
 use Rattle.fm_algebra.specs.Matrices.{Matrices, IsMatrices}
-use Rattle.fm_algebra.specs.Image.{InImage, InKernel, GeneratesKernel, Flat, pow, IsPower}
+use Rattle.fm_algebra.specs.Image.{InImage, InKernel, pow}
+use Rattle.fm_algebra.proofs.Generation.{GeneratesKernel, Flat, IsPower}
 use Rattle.fm_algebra.proofs.Images.{image_trans, image_columns, within_columns, within_twist, twist_more, mul_nil, nil_mul, twist_nil, flip_nil, mul_neg, sub_add, add_sub, kernel_product, kernel_matrix, kernel_twist}
 use Rattle.fm_limit.specs.Resolution.{rank_of, rank_before, d_below, Complex}
 use Rattle.fm_limit.proofs.Resolutions.{IsResolution, IsFrobeniusLift, IsLiftOfIdentity}

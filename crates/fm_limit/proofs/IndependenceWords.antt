@@ -16,11 +16,11 @@ use Rattle.fm_algebra.proofs.ListImages.{through, list_image}
 use Rattle.fm_limit.specs.DirectSystem.{IsCocycle, IsCoboundary, IsKilledBy, IsZeroInLimit, moved}
 use Rattle.fm_limit.specs.Limit.{mapped}
 use Rattle.fm_limit.specs.ResolvedIdeal.{ResolvedIdeal, matrix_at, row, InIdeal, LiesIn, IsResolved, IsLiftOfIdentityOf}
-use Rattle.fm_limit.specs.Classes.{matrices, complex_of, theta_of, lambda_of, degree_in, length_in, vector_in, image_of, IsClass, IsCoboundaryAfter, IsZeroClass, IsSameClass, IsZeroLimit, VanishesAfterInverting, AnnihilatesClasses, IsEnoughMoves, IsSupportIdealOf, IsZeroMap, IsOneToOneMap, IsOntoMap, IsOntoAfter}
-use Rattle.fm_limit.specs.Verdicts.{IsLeast, zero_limit, inverting, support, Holds}
-use Rattle.fm_limit.proofs.FactsRead.{matrices_laws, matrices_power, row_fits, resolution_read, frobenius_read, identity_read}
-use Rattle.fm_limit.proofs.StageWords.{dual_fits, dual_read}
-use Rattle.fm_limit.proofs.Resolved.{Resolved, Inside, carried_class, carried_killed, carried_zero, carried_onto, same_zero, same_vanishing, same_annihilators, same_enough, same_support, same_map_zero, same_map_one, same_map_onto, same_onto_by}
+use Rattle.fm_limit.specs.Classes.{matrices, complex_of, theta_of, lambda_of, degree_in, length_in, vector_in, image_of, IsClass, IsCoboundaryAfter, IsZeroClass, IsSameClass, IsZeroLimit, VanishesAfterInverting, AnnihilatesClasses, IsEnoughMoves, IsSupportIdealOf, IsMapOfClasses, IsZeroMap, IsOneToOneMap, IsOntoMap, IsOntoAfter}
+use Rattle.fm_limit.specs.Verdicts.{IsLeast, zero_limit, inverting, support, Holds, HoldsOfOnto, induced_map}
+use Rattle.fm_limit.proofs.FactsRead.{matrices_laws, matrices_power, resolution_read, frobenius_read, identity_read}
+use Rattle.fm_limit.proofs.Resolved.{Resolved, Inside, carried_class, carried_killed, carried_zero, carried_onto, same_zero, same_vanishing, same_annihilators, same_enough, same_support, same_map_classes, same_map_zero, same_map_one, same_map_onto, same_onto_by}
+use Rattle.fm_limit.proofs.MatrixWords.{dual_fits, dual_read, row_fits}
 
 module _ (p : Prime) (n : ℕ) where
   -- an ideal with its resolution and its lift, as the theory has it
@@ -60,9 +60,9 @@ module _ (p : Prime) (n : ℕ) where
         let d = dual_fits p n e a b (matrix_at p n ls i) f in
         vector_apply (polynomials p n) b a (matrix_transpose p n (matrix_twist p n e (matrix_at p n ls i))) z d.0 d.1 ∙ ap (λ X. mul (polynomials p n) X (vector (polynomials p n) a z)) (dual_read p n e a b (matrix_at p n ls i) f)
 
-    image_length : (e : ℕ) (z : List (Polynomial p n)) → length (image_of p n i ls e z) ≡ length_in p n i I
+    pub image_length_words : (e : ℕ) (z : List (Polynomial p n)) → length (image_of p n i ls e z) ≡ length_in p n i I
     unfolding image_of vector_product HasShape
-    image_length e z =
+    image_length_words e z =
         let f = k.fits i (let c = k.count in omega arith) in
         let d = dual_fits p n e (length_in p n i J) (length_in p n i I) (matrix_at p n ls i) f in
         length-apply (polynomials p n) (matrix_transpose p n (matrix_twist p n e (matrix_at p n ls i))) z ∙ d.0
@@ -70,7 +70,7 @@ module _ (p : Prime) (n : ℕ) where
     -- where I lies in J, classes are mapped to classes
     pub carried_class_words : LiesIn p n I.generators J.generators → (e : ℕ) (z : List (Polynomial p n)) → IsClass p n i J e z → IsClass p n i I e (image_of p n i ls e z)
     carried_class_words ij e z c = record {
-      fits = image_length e z;
+      fits = image_length_words e z;
       cocycle = subst (λ x. IsCocycle (matrices p n) (degree_in p n i I) e x) (sym (image_read e z)) (carried_class (matrices_laws p n) (prime_value p) (prime_positive p) (matrices_power p n) (resolved_read r) (resolved_read s) (lambda_of p n I.differentials J.differentials ls) (identity_read p n r.resolution s.resolution k) (inside_read r s ij) e (vector_in p n i J z) c.cocycle);
     }
 
@@ -183,3 +183,33 @@ module _ (p : Prime) (n : ℕ) where
     unfolding IsOntoAfter
     onto_after_words =
         same_onto_by (matrices_laws p n) (prime_value p) (prime_positive p) (matrices_power p n) (resolved_read rI) (resolved_read rJ) (resolved_read rI2) (resolved_read rJ2) (inside_read rI rI2 ii) (inside_read rI2 rI i2) (inside_read rJ rJ2 jj) (inside_read rJ2 rJ j2) (lambda_of p n I.differentials J.differentials ls) (lambda_of p n I2.differentials J2.differentials ms) (identity_read p n rI.resolution rJ.resolution k) (identity_read p n rI2.resolution rJ2.resolution l) classes_read
+
+    -- the second lift takes classes to classes too
+    classes_words : IsMapOfClasses p n i J2 I2 ms
+    classes_words e z c = record {
+      fits = image_length_words rI2 rJ2 l e z;
+      cocycle = subst (λ x. IsCocycle (matrices p n) (degree_in p n i I2) e x) (sym (image_read rI2 rJ2 l e z)) (same_map_classes (matrices_laws p n) (prime_value p) (prime_positive p) (matrices_power p n) (resolved_read rI) (resolved_read rJ) (resolved_read rI2) (resolved_read rJ2) (inside_read rI rI2 ii) (inside_read rI2 rI i2) (inside_read rJ rJ2 jj) (inside_read rJ2 rJ j2) (lambda_of p n I.differentials J.differentials ls) (lambda_of p n I2.differentials J2.differentials ms) (identity_read p n rI.resolution rJ.resolution k) (identity_read p n rI2.resolution rJ2.resolution l) classes_read e (vector_in p n i J2 z) c.cocycle);
+    }
+
+  -- ---- the verdict on an induced map holds for every choice
+  module _ {i : ℕ} {I J I2 J2 : ResolvedIdeal p n} {ls ms : List (PolynomialMatrix p n)} (rI : IsResolved p n i I) (rJ : IsResolved p n i J) (rI2 : IsResolved p n i I2) (rJ2 : IsResolved p n i J2) (ii : LiesIn p n I.generators I2.generators) (i2 : LiesIn p n I2.generators I.generators) (jj : LiesIn p n J.generators J2.generators) (j2 : LiesIn p n J2.generators J.generators) (k : IsLiftOfIdentityOf p n i I.differentials J.differentials ls) (l : IsLiftOfIdentityOf p n i I2.differentials J2.differentials ms) (c : IsMapOfClasses p n i J I ls) where
+    back_classes : IsMapOfClasses p n i J2 I2 ms
+    back_classes = classes_words rI rJ rI2 rJ2 ii i2 jj j2 k l c
+
+    onto_words : (onto : Option ℕ) → HoldsOfOnto p n i J I ls onto → HoldsOfOnto p n i J2 I2 ms onto
+    onto_words (Some s) h = (
+      onto_map_words rI rJ rI2 rJ2 ii i2 jj j2 k l c h.0,
+      (
+        onto_after_words rI rJ rI2 rJ2 ii i2 jj j2 k l c s h.1.0,
+        λ m q. h.1.1 m (onto_after_words rI2 rJ2 rI rJ i2 ii j2 jj l k back_classes m q),
+      ),
+    )
+    onto_words None h = λ q. h (onto_map_words rI2 rJ2 rI rJ i2 ii j2 jj l k back_classes q)
+
+    pub map_verdict_words : (is_zero is_one : Bool) (onto : Option ℕ) → Holds p n (induced_map i J I ls is_zero is_one onto) → Holds p n (induced_map i J2 I2 ms is_zero is_one onto)
+    map_verdict_words is_zero is_one onto h = (
+      back_classes,
+      through h.1 (zero_map_words rI rJ rI2 rJ2 ii i2 jj j2 k l c, zero_map_words rI2 rJ2 rI rJ i2 ii j2 jj l k back_classes),
+      through h.2 (one_map_words rI rJ rI2 rJ2 ii i2 jj j2 k l c, one_map_words rI2 rJ2 rI rJ i2 ii j2 jj l k back_classes),
+      onto_words onto h.3,
+    )

@@ -1,7 +1,8 @@
 -- The induced map in coordinates: zero, one to one, onto
 use Rattle.std.proofs.Common.{ℕ, zero, suc, ◌+◌, ◌≡◌, ◌↔◌, ◌∙◌, sym, ap, subst, add-zero, zero-add}
 use Rattle.fm_algebra.specs.Matrices.{Matrices, IsMatrices}
-use Rattle.fm_algebra.specs.Image.{InImage, Within, SameImage, Everything, Flat, Generates}
+use Rattle.fm_algebra.specs.Image.{InImage}
+use Rattle.fm_algebra.proofs.Generation.{Within, SameImage, Everything, Flat, Generates}
 use Rattle.fm_algebra.proofs.Images.{image_self, image_mul, image_trans, image_twist, image_add, image_neg, image_near, image_columns, within_columns, within_twist, everything_twist, mul_nil, nil_add, add_sub, twist_product}
 use Rattle.fm_limit.specs.DirectSystem.{Degree, IsCocycle, IsCoboundary, move, moved, IsZeroInLimit}
 use Rattle.fm_limit.specs.Limit.{mapped, InducedMapIsZero, InducedMapIsOneToOne, InducedMapIsOnto, IsOntoBy}

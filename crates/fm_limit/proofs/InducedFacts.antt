@@ -2,33 +2,25 @@
 use Rattle.std.proofs.Common.{ℕ, zero, suc, ◌+◌, ◌<◌, ◌≤◌, ◌≡◌, ◌∙◌, ◌↔◌, min, sym, ap, subst, arith, List, length}
 use Rattle.fm_gfp.specs.declared.prime.Prime.{Prime}
 use Rattle.fm_algebra.specs.Families.{mul, flip, beside, each, read}
-use Rattle.fm_algebra.specs.Image.{InImage, Everything, SameImage, Generates}
+use Rattle.fm_algebra.specs.Image.{InImage}
+use Rattle.fm_algebra.proofs.Generation.{Everything, SameImage, Generates}
 use Rattle.fm_algebra.specs.Polynomials.{polynomials, frobenius_twist}
 use Rattle.fm_algebra.specs.PolynomialMatrices as words
 use Rattle.fm_algebra.specs.PolynomialMatrices.{PolynomialMatrix, HasShape, matrix_beside, matrix_transpose}
-use Rattle.fm_algebra.proofs.Tables.{read_joined, joined_shaped}
 use Rattle.fm_algebra.proofs.ListImages.{through, turned}
 use Rattle.fm_limit.specs.ResolvedIdeal.{ResolvedIdeal, matrix_at, columns_of}
-use Rattle.fm_limit.specs.Classes.{matrices, degree_in, length_in, theta_of, lambda_of, lambda_in, complex_of, IsZeroMap, IsOneToOneMap, IsOntoMap, IsOntoAfter}
+use Rattle.fm_limit.specs.Classes.{matrices, degree_in, length_in, theta_of, lambda_of, lambda_in, complex_of, IsMapOfClasses, vector_in, IsZeroMap, IsOneToOneMap, IsOntoMap, IsOntoAfter}
 use Rattle.fm_limit.specs.Facts.{ColumnsInImage, IsEverything, DegreeFacts, MapFacts, JoinFacts}
 use Rattle.fm_limit.proofs.Chains.{Chain, rising_to, last_repeats, last_everything}
 use Rattle.fm_limit.proofs.Maps.{Maps}
 use Rattle.fm_limit.proofs.Homotopy.{lift_maps}
-use Rattle.fm_limit.proofs.Induced.{J, zero_map, one_map, one_columns, begins_same, onto_by, onto_map}
-use Rattle.fm_limit.proofs.FactsRead.{matrices_laws, matrices_flat, resolution_read, frobenius_read, identity_read, product_read, transpose_read, transpose_fits, preimage_from, columns_from, member, member_fits, step_read, shorter, same_members, chain_read, last_same, moves_read, facts_read}
-use Rattle.fm_limit.proofs.Waist.{everything_read}
-use Rattle.fm_limit.proofs.ColonFacts.{same_from}
+use Rattle.fm_limit.proofs.Induced.{J, mapped_class, zero_map, one_map, one_columns, begins_same, onto_by, onto_map}
+use Rattle.fm_limit.proofs.FactsRead.{matrices_laws, matrices_flat, resolution_read, frobenius_read, identity_read, member, member_fits, step_read, shorter, same_members, chain_read, last_same, moves_read, facts_read}
+use Rattle.fm_limit.proofs.MatrixWords.{product_read, transpose_read, transpose_fits, beside_read, beside_fits, preimage_from, columns_from, same_from, everything_read}
+use Rattle.fm_limit.specs.DirectSystem.{IsCocycle}
+use Rattle.fm_limit.proofs.IndependenceWords.{image_read, image_length_words}
 
 module _ (p : Prime) (n : ℕ) where
-  pub beside_read : (m a b : ℕ) (A B : PolynomialMatrix p n) → HasShape p n m a A → HasShape p n m b B
-      → read (polynomials p n) m (a + b) (matrix_beside p n A B) ≡ beside (polynomials p n) (read (polynomials p n) m a A) (read (polynomials p n) m b B)
-  unfolding HasShape matrix_beside
-  beside_read m a b A B s t = read_joined (polynomials p n) m a b A B s.0 s.1 t.1
-
-  pub beside_fits : (m a b : ℕ) (A B : PolynomialMatrix p n) → HasShape p n m a A → HasShape p n m b B → HasShape p n m (a + b) (matrix_beside p n A B)
-  unfolding HasShape matrix_beside
-  beside_fits m a b A B s t = joined_shaped (polynomials p n) m a b A B s.0 s.1 t.1
-
   module _ {i : ℕ} {source target : ResolvedIdeal p n} {ZS US ZT UT Phi : PolynomialMatrix p n} {KS KT ls : List (PolynomialMatrix p n)} {s t : ℕ} (X : DegreeFacts p n i source ZS US KS s) (Y : DegreeFacts p n i target ZT UT KT t) (F : MapFacts p n i source target ls ZS ZT Phi) where
     abbrev gS : ℕ
     gS = length ZS.columns
@@ -71,6 +63,13 @@ module _ (p : Prime) (n : ℕ) where
     pub target_fits : (r : ℕ) → r ≤ suc t → HasShape p n gT (columns_of p n KT r) (matrix_at p n KT r)
     target_fits r b = member_fits p n gT (Y.ext).morphism_fits Y.chain r b
 
+    -- classes are mapped to classes
+    pub classes_fact : IsMapOfClasses p n i source target ls
+    classes_fact e z c = record {
+      fits = image_length_words p n (Y.resolved) (X.resolved) F.identity e z;
+      cocycle = subst (λ x. IsCocycle (matrices p n) (degree_in p n i target) e x) (sym (image_read p n (Y.resolved) (X.resolved) F.identity e z)) (mapped_class (matrices_laws p n) (matrices_flat p n) lambda (moves_read p n X.resolved) (moves_read p n Y.resolved) maps_read (facts_read p n X) (facts_read p n Y) phi square_read e (vector_in p n i source z) c.cocycle);
+    }
+
     -- the induced map is zero exactly if the columns of Phi lie in the stable kernel of the target
     pub zero_map_fact : ColumnsInImage p n (matrix_at p n KT t) Phi ↔ IsZeroMap p n i source target ls
     unfolding IsZeroMap
@@ -101,7 +100,7 @@ module _ (p : Prime) (n : ℕ) where
           let nf = target_fits zero (omega arith) in
           let w0 = member_fits p n gT (Y.ext).morphism_fits W.chain zero (omega arith) in
           let q : zero ≡ min zero t = omega arith in
-          let h : SameImage (matrices p n) (member p n gT Ws zero) (beside (polynomials p n) {m = gT} {n = k} {k = gS} (member p n gT KT zero) phi) = subst (λ M. SameImage (matrices p n) (member p n gT Ws zero) M) (beside_read gT k gS N Phi nf F.fits) (same_from p n gT (columns_of p n Ws zero) (k + gS) (matrix_at p n Ws zero) (matrix_beside p n N Phi) w0 (beside_fits gT k gS N Phi nf F.fits) W.begins) in
+          let h : SameImage (matrices p n) (member p n gT Ws zero) (beside (polynomials p n) {m = gT} {n = k} {k = gS} (member p n gT KT zero) phi) = subst (λ M. SameImage (matrices p n) (member p n gT Ws zero) M) (beside_read p n gT k gS N Phi nf F.fits) (same_from p n gT (columns_of p n Ws zero) (k + gS) (matrix_at p n Ws zero) (matrix_beside p n N Phi) w0 (beside_fits p n gT k gS N Phi nf F.fits) W.begins) in
           subst (λ x. SameImage (matrices p n) (member p n gT Ws zero) (beside (polynomials p n) {m = gT} {n = columns_of p n KT x} {k = gS} (member p n gT KT x) phi)) q h
 
       join_begins : InImage (matrices p n) (each (polynomials p n) (frobenius_twist p n 1) (member p n gT Ws zero)) (mul (polynomials p n) (read (polynomials p n) gT gT UT) (member p n gT Ws zero))

@@ -8,6 +8,7 @@ pub mod Induced
 pub mod Independence
 pub mod Resolved
 pub mod Reading
+pub mod MatrixWords
 pub mod FactsRead
 pub mod Waist
 pub mod ColonFacts

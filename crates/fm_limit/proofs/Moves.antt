@@ -1,7 +1,8 @@
 -- Moves of classes, in coordinates; roots and the vanishing of the limit
 use Rattle.std.proofs.Common.{ℕ, zero, suc, ◌+◌, ◌≡◌, ◌↔◌, ◌∙◌, refl, sym, ap, subst, arith, add-zero}
 use Rattle.fm_algebra.specs.Matrices.{Matrices, IsMatrices}
-use Rattle.fm_algebra.specs.Image.{InImage, Generates, GeneratesKernel, Within, Everything, SameImage, Flat}
+use Rattle.fm_algebra.specs.Image.{InImage}
+use Rattle.fm_algebra.proofs.Generation.{Generates, GeneratesKernel, Within, Everything, SameImage, Flat}
 use Rattle.fm_limit.specs.DirectSystem.{Degree, IsCocycle, IsCoboundary, move, moved, IsKilledBy, IsZeroInLimit}
 use Rattle.fm_limit.specs.Limit.{LimitIsZero, IsRoot}
 use Rattle.fm_algebra.proofs.Images.{image_self, image_nil, image_columns, within_twist, everything_twist, twist_more, mul_nil, nil_mul, twist_nil, flip_nil, mul_neg, generates_twist, kernel_twist, twist_product}

@@ -14,7 +14,6 @@ use Rattle.fm_algebra.specs.Power.{power}
 use Rattle.fm_algebra.specs.Polynomials.{Polynomial, polynomials, polynomial_zero, polynomial_one, polynomial_product, polynomial_power, polynomial_term, coefficient, frobenius_twist}
 use Rattle.fm_algebra.specs.PolynomialMatrices.{PolynomialMatrix, HasShape, matrix_unit, matrix_product, matrix_twist, InImage, InKernel, GeneratesKernel}
 use Rattle.fm_algebra.proofs.Concrete.{polynomials_laws, twists_compose}
-use Rattle.fm_algebra.proofs.ListImages.{length_image}
 use Rattle.fm_algebra.proofs.Algebra.{mul_left_comm, mul_zero, mul_one}
 use Rattle.fm_algebra.proofs.PolynomialWords.{cancel_factor, polynomials_domain, coefficient_zero, coefficient_term, coefficient_term_elsewhere, coefficient_product}
 use Rattle.fm_algebra.proofs.TwistWords.{prime_power_is_twist, twist_of_zero, twist_of_product, twist_one_to_one, twist_at_multiple, twist_elsewhere}
@@ -26,11 +25,9 @@ use Rattle.fm_limit.specs.DirectSystem.{Degree, IsCoboundary, move, moved, IsKil
 use Rattle.fm_limit.specs.ResolvedIdeal.{matrix_at, rank, row, InIdeal, IsResolved}
 use Rattle.fm_limit.specs.Classes.{matrices, IsClass, IsCoboundaryAfter, IsZeroClass}
 use Rattle.fm_limit.specs.SmallIdeals.{one_entry, no_columns, principal}
-use Rattle.fm_limit.proofs.FactsRead.{matrices_laws, row_fits, product_read, twist_read, twist_fits, unit_read}
-use Rattle.fm_limit.proofs.TwistedResolution.{row_read}
-use Rattle.fm_limit.proofs.ChainWords.{product_fits}
-use Rattle.fm_limit.proofs.SmallIdeals.{unit_fits, no_rows}
-use Rattle.fm_limit.proofs.StageWords.{kernel_words, image_words, kernel_length}
+use Rattle.fm_limit.proofs.FactsRead.{matrices_laws}
+use Rattle.fm_limit.proofs.SmallIdeals.{no_rows}
+use Rattle.fm_limit.proofs.MatrixWords.{image_words, kernel_words, image_length, kernel_length, product_read, product_fits, twist_read, twist_fits, unit_read, unit_fits, row_fits, row_read}
 
 module _ (p : Prime) (n : ℕ) where
   -- ---- matrices with one entry
@@ -58,7 +55,7 @@ module _ (p : Prime) (n : ℕ) where
   unfolding HasShape flip component
   row_one f =
       read_injective (polynomials p n) 1 1 (row p n (f ∷ [])) (one_entry p n f) (row_fits p n (f ∷ [])) (one_fits f)
-      (single (polynomials_laws p n) (frobenius_twist p n) (read (polynomials p n) 1 1 (row p n (f ∷ []))) (element (polynomials p n) f) (ap (λ X. X zero only zero only) (row_read p n 0 (f ∷ []))) ∙ sym (one_read f))
+      (single (polynomials_laws p n) (frobenius_twist p n) (read (polynomials p n) 1 1 (row p n (f ∷ []))) (element (polynomials p n) f) (ap (λ X. X zero only zero only) (row_read p n (f ∷ []))) ∙ sym (one_read f))
 
   same_entries : (A B : PolynomialMatrix p n) → HasShape p n 1 1 A → HasShape p n 1 1 B → read (polynomials p n) 1 1 A ≡ read (polynomials p n) 1 1 B → A ≡ B
   unfolding HasShape
@@ -104,17 +101,13 @@ module _ (p : Prime) (n : ℕ) where
     unfolding mul finite_sum nil
     no_product X = refl
 
-    image_length : (w : List (Polynomial p n)) → InImage p n (no_columns p n) w → length w ≡ 1
-    unfolding InImage
-    image_length w h = length_image (polynomials p n) (frobenius_twist p n) (no_columns p n) w h
-
     exact_first : GeneratesKernel p n (no_columns p n) (one_entry p n f)
     exact_first w = (
       λ h.
           let l = kernel_length p n 1 1 (one_entry p n f) w (one_fits f) h in
           (image_words p n 1 0 (no_columns p n) w no_fits l).1 (subst (λ v. image.InImage (matrices p n) (read (polynomials p n) 1 0 (no_columns p n)) v) (sym (zero_vector w l h)) (image_nil (matrices_laws p n) 1 (read (polynomials p n) 1 0 (no_columns p n)))),
       λ h.
-          let l = image_length w h in
+          let l = image_length p n 1 0 (no_columns p n) w no_fits h in
           let x = (image_words p n 1 0 (no_columns p n) w no_fits l).0 h in
           let z : vector (polynomials p n) 1 w ≡ nil (polynomials p n) 1 1 = sym x.1 ∙ no_product x.0 in
           (kernel_words p n 1 1 (one_entry p n f) w (one_fits f) l).1 (ap (mul (polynomials p n) (read (polynomials p n) 1 1 (one_entry p n f))) z ∙ mul_nil (matrices_laws p n) (read (polynomials p n) 1 1 (one_entry p n f))),
@@ -123,12 +116,12 @@ module _ (p : Prime) (n : ℕ) where
     square_first : matrix_product p n (one_entry p n f) (one_entry p n cofactor) ≡ matrix_product p n (matrix_unit p n 1) (matrix_twist p n 1 (one_entry p n f))
     square_first =
         let t = twist_fits p n 1 1 1 (one_entry p n f) (one_fits f) in
-        same_entries (matrix_product p n (one_entry p n f) (one_entry p n cofactor)) (matrix_product p n (matrix_unit p n 1) (matrix_twist p n 1 (one_entry p n f))) (product_fits p n 1 1 1 (one_entry p n f) (one_entry p n cofactor) (one_fits f) (one_fits cofactor)) (product_fits p n 1 1 1 (matrix_unit p n 1) (matrix_twist p n 1 (one_entry p n f)) (unit_fits p n) t)
+        same_entries (matrix_product p n (one_entry p n f) (one_entry p n cofactor)) (matrix_product p n (matrix_unit p n 1) (matrix_twist p n 1 (one_entry p n f))) (product_fits p n 1 1 1 (one_entry p n f) (one_entry p n cofactor) (one_fits f) (one_fits cofactor)) (product_fits p n 1 1 1 (matrix_unit p n 1) (matrix_twist p n 1 (one_entry p n f)) (unit_fits p n 1) t)
         (product_read p n 1 1 1 (one_entry p n f) (one_entry p n cofactor) (one_fits f) (one_fits cofactor)
         ∙ ap₂ (λ X Y. mul (polynomials p n) X Y) (one_read f) (one_read cofactor)
         ∙ element_product f cofactor
         ∙ ap (element (polynomials p n)) times_cofactor
-        ∙ sym (product_read p n 1 1 1 (matrix_unit p n 1) (matrix_twist p n 1 (one_entry p n f)) (unit_fits p n) t ∙ ap (λ X. mul (polynomials p n) X (read (polynomials p n) 1 1 (matrix_twist p n 1 (one_entry p n f)))) (unit_read p n 1) ∙ (matrices_laws p n).unit_left (read (polynomials p n) 1 1 (matrix_twist p n 1 (one_entry p n f))) ∙ twist_read p n 1 1 1 (one_entry p n f) (one_fits f) ∙ ap (each (polynomials p n) (frobenius_twist p n 1) {m = 1} {n = 1}) (one_read f) ∙ each_element 1 f))
+        ∙ sym (product_read p n 1 1 1 (matrix_unit p n 1) (matrix_twist p n 1 (one_entry p n f)) (unit_fits p n 1) t ∙ ap (λ X. mul (polynomials p n) X (read (polynomials p n) 1 1 (matrix_twist p n 1 (one_entry p n f)))) (unit_read p n 1) ∙ (matrices_laws p n).unit_left (read (polynomials p n) 1 1 (matrix_twist p n 1 (one_entry p n f))) ∙ twist_read p n 1 1 1 (one_entry p n f) (one_fits f) ∙ ap (each (polynomials p n) (frobenius_twist p n 1) {m = 1} {n = 1}) (one_read f) ∙ each_element 1 f))
 
     pub principal_resolved : IsResolved p n 1 (principal p n f)
     unfolding principal matrix_at InIdeal
@@ -141,7 +134,7 @@ module _ (p : Prime) (n : ℕ) where
       };
       frobenius = record {
         count = refl;
-        fits = two (λ j. HasShape p n (rank p n (one_entry p n f ∷ no_columns p n ∷ []) j) (rank p n (one_entry p n f ∷ no_columns p n ∷ []) j) (matrix_at p n (matrix_unit p n 1 ∷ one_entry p n cofactor ∷ []) j)) (unit_fits p n) (one_fits cofactor);
+        fits = two (λ j. HasShape p n (rank p n (one_entry p n f ∷ no_columns p n ∷ []) j) (rank p n (one_entry p n f ∷ no_columns p n ∷ []) j) (matrix_at p n (matrix_unit p n 1 ∷ one_entry p n cofactor ∷ []) j)) (unit_fits p n 1) (one_fits cofactor);
         first = refl;
         square = λ j b. let z : zero ≡ j = omega arith in subst (λ j. matrix_product p n (matrix_at p n (one_entry p n f ∷ no_columns p n ∷ []) j) (matrix_at p n (matrix_unit p n 1 ∷ one_entry p n cofactor ∷ []) (suc j)) ≡ matrix_product p n (matrix_at p n (matrix_unit p n 1 ∷ one_entry p n cofactor ∷ []) j) (matrix_twist p n 1 (matrix_at p n (one_entry p n f ∷ no_columns p n ∷ []) j))) z square_first;
       };

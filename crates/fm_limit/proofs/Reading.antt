@@ -3,7 +3,8 @@ use Rattle.std.proofs.Common.{ℕ, ◌<◌, ◌≡◌, ◌∙◌, ◌↔◌, sym
 use Rattle.fm_algebra.specs.Ring.{Ring, IsRing, IsFrobenius}
 use Rattle.fm_algebra.specs.Matrix.{Matrix, cols, entry, component, IsShaped, apply, InListImage, InListKernel, InListPreimage}
 use Rattle.fm_algebra.specs.Families.{Mat, mul, basis, read, vector, families}
-use Rattle.fm_algebra.specs.Image.{InImage, InKernel, Generates, GeneratesKernel, SameImage}
+use Rattle.fm_algebra.specs.Image.{InImage, InKernel}
+use Rattle.fm_algebra.proofs.Generation.{Generates, GeneratesKernel, SameImage}
 use Rattle.fm_algebra.proofs.FamilyLaws.{sum_at, families_laws}
 use Rattle.fm_algebra.proofs.Tables.{list_of, length-list_of, vector_list_of}
 use Rattle.fm_algebra.proofs.Images.{image_columns, image_mul}

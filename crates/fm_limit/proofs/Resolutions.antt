@@ -1,7 +1,7 @@
 -- Resolutions of ideals, Frobenius lifts and lifts of the identity, over the interface of matrices
 use Rattle.std.proofs.Common.{ℕ, zero, suc, ◌<◌, ◌≡◌}
 use Rattle.fm_algebra.specs.Matrices.{Matrices}
-use Rattle.fm_algebra.specs.Image.{GeneratesKernel, SameImage}
+use Rattle.fm_algebra.proofs.Generation.{GeneratesKernel, SameImage}
 use Rattle.fm_limit.specs.Resolution.{rank_of, Complex}
 
 module _ (M : Matrices) where

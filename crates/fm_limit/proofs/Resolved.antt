@@ -1,13 +1,14 @@
 -- Ideals with resolutions and lifts: what is said of the limit does not depend on them
 use Rattle.std.proofs.Common.{ℕ, zero, ◌+◌, ◌<◌, ◌≡◌, ◌↔◌, ◌∙◌, sym, ap, subst, arith}
 use Rattle.fm_algebra.specs.Matrices.{Matrices, IsMatrices}
-use Rattle.fm_algebra.specs.Image.{InImage, IsPower, pow}
-use Rattle.fm_algebra.proofs.Images.{image_add, image_neg, nil_mul}
+use Rattle.fm_algebra.specs.Image.{InImage, pow}
+use Rattle.fm_algebra.proofs.Generation.{IsPower}
+use Rattle.fm_algebra.proofs.Images.{sub_add, image_add, image_neg, nil_mul}
 use Rattle.fm_limit.specs.Resolution.{rank_of, d_below, Complex}
 use Rattle.fm_limit.proofs.Resolutions.{IsResolution, IsFrobeniusLift, IsLiftOfIdentity}
 use Rattle.fm_limit.specs.DirectSystem.{degree, Degree, IsCocycle, IsCoboundary, moved, IsKilledBy, IsZeroInLimit}
 use Rattle.fm_limit.specs.Limit.{mapped, LimitIsZero, VanishesInverting, Annihilates, IsEnough, IsSupportIdeal, InducedMapIsZero, InducedMapIsOneToOne, InducedMapIsOnto, IsOntoBy}
-use Rattle.fm_limit.proofs.Moves.{Moves, dual}
+use Rattle.fm_limit.proofs.Moves.{Moves, coboundary_cocycle, dual}
 use Rattle.fm_limit.proofs.Maps.{Maps, mapped_coboundary, mapped_cocycle}
 use Rattle.fm_limit.proofs.Homotopy.{lift_moves, lift_maps, identities_differ, upper_square}
 use Rattle.fm_limit.proofs.Independence.{IsSameBy, neg_sub, sub_chain, flip_unit, killed_near, zero_near, mapped_killed, mapped_zero, mapped_sub, mapped_same, same_near, same_turned, lift_after, lift_itself, lift_exists}
@@ -182,6 +183,21 @@ module _ {M : Matrices} (L : IsMatrices M) (p : ℕ) (positive : zero < p) (powe
 
     image_class : (e : ℕ) (z : Mat (rank_of (B.P).cols i) 1) → IsCocycle M (degree_of B) e z → IsCocycle M (degree_of A) e (carried A B k e z)
     image_class e z c = to_classes e z c
+
+    -- so the second lift takes classes to classes too
+    pub same_map_classes : (e : ℕ) (z : Mat (rank_of (B2.P).cols i) 1) → IsCocycle M (degree_of B2) e z → IsCocycle M (degree_of A2) e (carried A2 B2 k2 e z)
+    same_map_classes e z c =
+        let x : Mat (rank_of (A.P).cols i) 1 = carried A B k e (source e z) in
+        let y : Mat (rank_of (A2.P).cols i) 1 = carried A2 A up.0 e x in
+        let v : Mat (rank_of (A2.P).cols i) 1 = carried A2 B2 k2 e z in
+        let a : IsCocycle M (degree_of A2) e y = carried_class A2 A up.0 up.1 a2 e x (image_class e (source e z) (source_class e z c)) in
+        let b : IsCocycle M (degree_of A2) e (v ⊕ neg y) = coboundary_cocycle L (moves_of A2) e (v ⊕ neg y) (round e z c) in
+        sub_cocycle e v y a b
+      where
+        sub_cocycle : (e : ℕ) (v y : Mat (rank_of (A2.P).cols i) 1) → IsCocycle M (degree_of A2) e y → IsCocycle M (degree_of A2) e (v ⊕ neg y) → IsCocycle M (degree_of A2) e v
+        sub_cocycle e v y a b =
+            let D : Mat ((A2.P).cols i) (rank_of (A2.P).cols i) = flip (twist e ((A2.P).d i)) in
+            ap (λ w. D ⊛ w) (sym (sub_add L v y)) ∙ L.dist_left D y (v ⊕ neg y) ∙ ap (λ w. w ⊕ D ⊛ (v ⊕ neg y)) a ∙ ap (λ w. nil ((A2.P).cols i) 1 ⊕ w) b ∙ L.add_nil (nil ((A2.P).cols i) 1)
 
     pub same_map_zero : InducedMapIsZero M (degree_of B) (degree_of A) (k i) → InducedMapIsZero M (degree_of B2) (degree_of A2) (k2 i)
     same_map_zero f e z c =

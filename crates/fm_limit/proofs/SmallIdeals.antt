@@ -5,12 +5,11 @@ use Rattle.fm_algebra.specs.Families.{only, Mat, mul, unit, nil, flip, each, rea
 use Rattle.fm_algebra.specs.Matrix.{component}
 use Rattle.fm_algebra.specs.Image.{pow}
 use Rattle.fm_algebra.specs.Polynomials.{Polynomial, polynomials, polynomial_zero, polynomial_one, frobenius_twist}
-use Rattle.fm_algebra.specs.PolynomialMatrices.{PolynomialMatrix, HasShape, matrix_unit}
+use Rattle.fm_algebra.specs.PolynomialMatrices.{HasShape, matrix_unit}
 use Rattle.fm_algebra.proofs.Concrete.{polynomials_laws}
 use Rattle.fm_algebra.proofs.PolynomialWords.{one_differs}
 use Rattle.fm_algebra.proofs.FamilyPowers.{single}
 use Rattle.fm_algebra.proofs.Images.{image_nil, mul_nil}
-use Rattle.fm_algebra.proofs.Tables.{unit_shaped}
 use Rattle.fm_limit.specs.Resolution.{d_below}
 use Rattle.fm_limit.specs.DirectSystem.{IsCocycle, IsCoboundary, move, moved, IsKilledBy, IsZeroInLimit}
 use Rattle.fm_limit.specs.ResolvedIdeal.{ResolvedIdeal, matrix_at, columns_of, rank, row, InIdeal, IsResolved}
@@ -19,20 +18,12 @@ use Rattle.fm_limit.specs.SmallIdeals.{in_degree_zero}
 use Rattle.fm_limit.proofs.Homotopy.{coboundary_first}
 use Rattle.fm_limit.proofs.Independence.{flip_unit}
 use Rattle.fm_limit.proofs.Vanishing.{pow_one}
-use Rattle.fm_limit.proofs.TwistedResolution.{row_read}
-use Rattle.fm_limit.proofs.FactsRead.{matrices_laws, row_fits, unit_read}
+use Rattle.fm_limit.proofs.FactsRead.{matrices_laws}
+use Rattle.fm_limit.proofs.MatrixWords.{unit_fits, shape_columns, unit_read, row_fits, row_read}
 
 module _ (p : Prime) (n : ℕ) where
-  pub unit_fits : HasShape p n 1 1 (matrix_unit p n 1)
-  unfolding HasShape matrix_unit
-  unit_fits = unit_shaped (polynomials p n) 1
-
-  shape_columns : (a b : ℕ) (A : PolynomialMatrix p n) → HasShape p n a b A → length A.columns ≡ b
-  unfolding HasShape
-  shape_columns a b A s = s.1
-
   row_columns : (fs : List (Polynomial p n)) → length (row p n fs).columns ≡ length fs
-  row_columns fs = shape_columns 1 (length fs) (row p n fs) (row_fits p n fs)
+  row_columns fs = shape_columns p n 1 (length fs) (row p n fs) (row_fits p n fs)
 
   -- every ideal is resolved in degree 0
   pub degree_zero_resolved : (fs : List (Polynomial p n)) → IsResolved p n 0 (in_degree_zero p n fs)
@@ -46,7 +37,7 @@ module _ (p : Prime) (n : ℕ) where
     };
     frobenius = record {
       count = refl;
-      fits = λ j b. let z : zero ≡ j = omega arith in subst (λ j. HasShape p n (rank p n (row p n fs ∷ []) j) (rank p n (row p n fs ∷ []) j) (matrix_at p n (matrix_unit p n 1 ∷ []) j)) z unit_fits;
+      fits = λ j b. let z : zero ≡ j = omega arith in subst (λ j. HasShape p n (rank p n (row p n fs ∷ []) j) (rank p n (row p n fs ∷ []) j) (matrix_at p n (matrix_unit p n 1 ∷ []) j)) z (unit_fits p n 1);
       first = refl;
       square = λ j b. absurd (omega arith);
     };
@@ -96,7 +87,7 @@ module _ (p : Prime) (n : ℕ) where
   unit_row : read (polynomials p n) 1 1 (row p n (polynomial_one p n ∷ [])) ≡ unit (polynomials p n) 1
   unfolding unit component flip polynomial_one
   unit_row =
-      single (polynomials_laws p n) (frobenius_twist p n) (read (polynomials p n) 1 1 (row p n (polynomial_one p n ∷ []))) (unit (polynomials p n) 1) (ap (λ X. X zero only zero only) (row_read p n 0 (polynomial_one p n ∷ [])))
+      single (polynomials_laws p n) (frobenius_twist p n) (read (polynomials p n) 1 1 (row p n (polynomial_one p n ∷ []))) (unit (polynomials p n) 1) (ap (λ X. X zero only zero only) (row_read p n (polynomial_one p n ∷ [])))
 
   -- the row (1) sends only 0 to 0
   unit_kernel : (k e : ℕ) → k ≡ 1 → (z : Mat (polynomials p n) 1 1)

@@ -1,43 +1,21 @@
 -- Cocycles, coboundaries and moves in words of lists
 use Rattle.std.proofs.Common.{ℕ, suc, ◌+◌, ◌≡◌, ◌∙◌, ◌↔◌, sym, ap, subst, arith, add-zero, List, length}
 use Rattle.fm_gfp.specs.declared.prime.Prime.{Prime}
-use Rattle.fm_algebra.specs.Families.{mul, flip, each, read, vector}
+use Rattle.fm_algebra.specs.Families.{mul, flip, each, vector}
 use Rattle.fm_algebra.specs.Image as image
 use Rattle.fm_algebra.specs.Polynomials.{Polynomial, polynomials, frobenius_twist}
-use Rattle.fm_algebra.specs.PolynomialMatrices.{PolynomialMatrix, HasShape, matrix_transpose, matrix_twist, vector_product, InImage, InKernel}
+use Rattle.fm_algebra.specs.PolynomialMatrices.{HasShape, matrix_transpose, matrix_twist, vector_product, InImage, InKernel}
 use Rattle.fm_algebra.proofs.Tables.{vector_apply, length-apply}
-use Rattle.fm_algebra.proofs.ListImages.{turned, list_image, list_kernel}
+use Rattle.fm_algebra.proofs.ListImages.{turned}
 use Rattle.fm_limit.specs.Resolution.{rank_before}
 use Rattle.fm_limit.specs.DirectSystem.{IsCocycle, IsCoboundary, move, moved, IsKilledBy}
 use Rattle.fm_limit.specs.ResolvedIdeal.{ResolvedIdeal, matrix_at, columns_of, differential, IsResolved}
 use Rattle.fm_limit.specs.Classes.{matrices, degree_in, length_in, vector_in, moved_once, IsClass, IsCoboundaryAfter}
 use Rattle.fm_limit.proofs.Moves.{cocycle_moves}
-use Rattle.fm_limit.proofs.FactsRead.{matrices_laws, moves_read, twist_read, twist_fits, transpose_read, transpose_fits, below_read, below_fits}
+use Rattle.fm_limit.proofs.FactsRead.{matrices_laws, moves_read, below_read, below_fits}
+use Rattle.fm_limit.proofs.MatrixWords.{image_words, kernel_words, kernel_length, dual_fits, dual_read}
 
 module _ (p : Prime) (n : ℕ) where
-  -- the transpose of a twist
-  pub dual_fits : (e a b : ℕ) (A : PolynomialMatrix p n) → HasShape p n a b A → HasShape p n b a (matrix_transpose p n (matrix_twist p n e A))
-  dual_fits e a b A s = transpose_fits p n a b (matrix_twist p n e A) (twist_fits p n e a b A s)
-
-  pub dual_read : (e a b : ℕ) (A : PolynomialMatrix p n) → HasShape p n a b A
-      → read (polynomials p n) b a (matrix_transpose p n (matrix_twist p n e A)) ≡ flip (polynomials p n) (each (polynomials p n) (frobenius_twist p n e) (read (polynomials p n) a b A))
-  dual_read e a b A s =
-      transpose_read p n a b (matrix_twist p n e A) (twist_fits p n e a b A s) ∙ ap (flip (polynomials p n) {m = a} {n = b}) (twist_read p n e a b A s)
-
-  pub kernel_words : (a b : ℕ) (A : PolynomialMatrix p n) (w : List (Polynomial p n)) → HasShape p n a b A → length w ≡ b
-      → InKernel p n A w ↔ image.InKernel (matrices p n) (read (polynomials p n) a b A) (vector (polynomials p n) b w)
-  unfolding InKernel HasShape
-  kernel_words a b A w s l = list_kernel (polynomials p n) (frobenius_twist p n) a b A w s.0 s.1 l
-
-  pub image_words : (a b : ℕ) (A : PolynomialMatrix p n) (v : List (Polynomial p n)) → HasShape p n a b A → length v ≡ a
-      → InImage p n A v ↔ image.InImage (matrices p n) (read (polynomials p n) a b A) (vector (polynomials p n) a v)
-  unfolding InImage HasShape
-  image_words a b A v s l = list_image (polynomials p n) (frobenius_twist p n) a b A v s.0 s.1 l
-
-  pub kernel_length : (a b : ℕ) (A : PolynomialMatrix p n) (w : List (Polynomial p n)) → HasShape p n a b A → InKernel p n A w → length w ≡ b
-  unfolding InKernel HasShape
-  kernel_length a b A w s h = h.0 ∙ s.1
-
   module _ {i : ℕ} {I : ResolvedIdeal p n} (r : IsResolved p n i I) where
     above_fits : HasShape p n (length_in p n i I) (columns_of p n I.differentials i) (matrix_at p n I.differentials i)
     above_fits = (r.resolution).fits i (let c = (r.resolution).count in omega arith)
@@ -51,10 +29,10 @@ module _ (p : Prime) (n : ℕ) where
         let a = length_in p n i I in
         let b = columns_of p n I.differentials i in
         let A = matrix_transpose p n (matrix_twist p n e (matrix_at p n I.differentials i)) in
-        let s = dual_fits e a b (matrix_at p n I.differentials i) above_fits in
-        let k : length z ≡ a → InKernel p n A z ↔ IsCocycle (matrices p n) (degree_in p n i I) e (vector_in p n i I z) = λ l. subst (λ X. InKernel p n A z ↔ image.InKernel (matrices p n) X (vector (polynomials p n) a z)) (dual_read e a b (matrix_at p n I.differentials i) above_fits) (kernel_words b a A z s l) in (
+        let s = dual_fits p n e a b (matrix_at p n I.differentials i) above_fits in
+        let k : length z ≡ a → InKernel p n A z ↔ IsCocycle (matrices p n) (degree_in p n i I) e (vector_in p n i I z) = λ l. subst (λ X. InKernel p n A z ↔ image.InKernel (matrices p n) X (vector (polynomials p n) a z)) (dual_read p n e a b (matrix_at p n I.differentials i) above_fits) (kernel_words p n b a A z s l) in (
           λ c. (k c.fits).1 c.cocycle,
-          λ h. let l = kernel_length b a A z s h in record { fits = l; cocycle = (k l).0 h },
+          λ h. let l = kernel_length p n b a A z s h in record { fits = l; cocycle = (k l).0 h },
         )
 
     -- no moves make z a coboundary exactly if z is in the image of the transpose of d_i^[q]
@@ -67,7 +45,7 @@ module _ (p : Prime) (n : ℕ) where
         let d = differential p n I.differentials i in
         let A = matrix_transpose p n (matrix_twist p n e d) in
         let f = below_fits p n r.resolution in
-        let h : InImage p n A z ↔ IsCoboundary (matrices p n) (degree_in p n i I) e (vector_in p n i I z) = subst (λ X. InImage p n A z ↔ image.InImage (matrices p n) X (vector (polynomials p n) b z)) (dual_read e a b d f ∙ ap (λ Y. flip (polynomials p n) {m = a} {n = b} (each (polynomials p n) (frobenius_twist p n e) {m = a} {n = b} Y)) (below_read p n I.differentials i)) (image_words b a A z (dual_fits e a b d f) l) in
+        let h : InImage p n A z ↔ IsCoboundary (matrices p n) (degree_in p n i I) e (vector_in p n i I z) = subst (λ X. InImage p n A z ↔ image.InImage (matrices p n) X (vector (polynomials p n) b z)) (dual_read p n e a b d f ∙ ap (λ Y. flip (polynomials p n) {m = a} {n = b} (each (polynomials p n) (frobenius_twist p n e) {m = a} {n = b} Y)) (below_read p n I.differentials i)) (image_words p n b a A z (dual_fits p n e a b d f) l) in
         turned (subst (λ x. InImage p n A z ↔ IsCoboundary (matrices p n) (degree_in p n i I) x (vector_in p n i I z)) (sym (add-zero e)) h)
 
     pub moved_read : (e : ℕ) (z : List (Polynomial p n)) → vector_in p n i I (moved_once p n i I e z) ≡ move (matrices p n) (degree_in p n i I) e (vector_in p n i I z)
@@ -75,14 +53,14 @@ module _ (p : Prime) (n : ℕ) where
     moved_read e z =
         let a = length_in p n i I in
         let t = matrix_at p n I.lift i in
-        let s = dual_fits e a a t theta_fits in
-        vector_apply (polynomials p n) a a (matrix_transpose p n (matrix_twist p n e t)) z s.0 s.1 ∙ ap (λ X. mul (polynomials p n) X (vector (polynomials p n) a z)) (dual_read e a a t theta_fits)
+        let s = dual_fits p n e a a t theta_fits in
+        vector_apply (polynomials p n) a a (matrix_transpose p n (matrix_twist p n e t)) z s.0 s.1 ∙ ap (λ X. mul (polynomials p n) X (vector (polynomials p n) a z)) (dual_read p n e a a t theta_fits)
 
     length_moved : (e : ℕ) (z : List (Polynomial p n)) → length (moved_once p n i I e z) ≡ length_in p n i I
     unfolding moved_once vector_product HasShape
     length_moved e z =
         let a = length_in p n i I in
-        let s = dual_fits e a a (matrix_at p n I.lift i) theta_fits in
+        let s = dual_fits p n e a a (matrix_at p n I.lift i) theta_fits in
         length-apply (polynomials p n) (matrix_transpose p n (matrix_twist p n e (matrix_at p n I.lift i))) z ∙ s.0
 
     -- one move, and then s more

@@ -4,18 +4,18 @@ use Rattle.std.proofs.lemmas.List.{length-map, get_or-map}
 use Rattle.fm_gfp.specs.declared.prime.Prime.{Prime}
 use Rattle.fm_algebra.specs.Families.{flip, each, read, vector}
 use Rattle.fm_algebra.specs.Image as image
-use Rattle.fm_algebra.specs.Matrix.{column_matrix}
 use Rattle.fm_algebra.specs.Polynomials.{Polynomial, polynomials, frobenius_twist}
-use Rattle.fm_algebra.specs.PolynomialMatrices.{PolynomialMatrix, HasShape, matrix_zero, matrix_twist, matrix_transpose, matrix_column, InImage, GeneratesKernel}
+use Rattle.fm_algebra.specs.PolynomialMatrices.{PolynomialMatrix, HasShape, matrix_zero, matrix_twist, InImage, GeneratesKernel}
 use Rattle.fm_algebra.proofs.Concrete.{polynomials_laws, polynomials_frobenius}
 use Rattle.fm_algebra.proofs.FamilyLaws.{twist_zero}
-use Rattle.fm_algebra.proofs.Tables.{read_injective, read_transpose, read_column, column_shaped, vector_map}
+use Rattle.fm_algebra.proofs.Tables.{read_injective, vector_map}
 use Rattle.fm_algebra.proofs.Images.{within_twist}
 use Rattle.fm_algebra.proofs.PolynomialMatrices.{kernel_of_twist}
-use Rattle.fm_algebra.proofs.ListImages.{through, turned, list_image}
+use Rattle.fm_algebra.proofs.ListImages.{through, turned}
 use Rattle.fm_limit.specs.ResolvedIdeal.{matrix_at, columns_of, rank, row, InIdeal, IsResolutionOf}
 use Rattle.fm_limit.specs.Classes.{matrices}
-use Rattle.fm_limit.proofs.FactsRead.{matrices_laws, row_fits, resolution_read, twist_read, twist_fits}
+use Rattle.fm_limit.proofs.FactsRead.{matrices_laws, resolution_read}
+use Rattle.fm_limit.proofs.MatrixWords.{image_words, shape_columns, twist_read, twist_fits, row_fits, row_read}
 
 module _ (p : Prime) (n e : ℕ) where
   abbrev powers : List (Polynomial p n) → List (Polynomial p n)
@@ -24,16 +24,9 @@ module _ (p : Prime) (n e : ℕ) where
   abbrev twists : List (PolynomialMatrix p n) → List (PolynomialMatrix p n)
   twists ds = map (matrix_twist p n e) ds
 
-  -- the row of the powers is the twist of the row
-  pub row_read : (fs : List (Polynomial p n)) → read (polynomials p n) 1 (length fs) (row p n fs) ≡ flip (polynomials p n) (vector (polynomials p n) (length fs) fs)
-  unfolding row matrix_transpose matrix_column
-  row_read fs =
-      let c = column_shaped (polynomials p n) (length fs) fs refl in
-      read_transpose (polynomials p n) (length fs) 1 (column_matrix (polynomials p n) fs) c.0 c.1 ∙ ap (flip (polynomials p n) {m = length fs} {n = 1}) (read_column (polynomials p n) (length fs) fs)
-
   powers_read : (fs : List (Polynomial p n)) → read (polynomials p n) 1 (length fs) (row p n (powers fs)) ≡ flip (polynomials p n) (vector (polynomials p n) (length fs) (powers fs))
   powers_read fs =
-      subst (λ g. read (polynomials p n) 1 g (row p n (powers fs)) ≡ flip (polynomials p n) (vector (polynomials p n) g (powers fs))) (length-map fs (frobenius_twist p n e)) (row_read (powers fs))
+      subst (λ g. read (polynomials p n) 1 g (row p n (powers fs)) ≡ flip (polynomials p n) (vector (polynomials p n) g (powers fs))) (length-map fs (frobenius_twist p n e)) (row_read p n (powers fs))
 
   row_powers : (fs : List (Polynomial p n)) → row p n (powers fs) ≡ matrix_twist p n e (row p n fs)
   unfolding HasShape flip each
@@ -44,21 +37,12 @@ module _ (p : Prime) (n e : ℕ) where
       read_injective (polynomials p n) 1 g (row p n (powers fs)) (matrix_twist p n e (row p n fs)) a b
       (powers_read fs
       ∙ ap (flip (polynomials p n) {m = g} {n = 1}) (vector_map (polynomials p n) (frobenius_twist p n e) (twist_zero (polynomials_laws p n) (polynomials_frobenius p n) e) g fs)
-      ∙ sym (twist_read p n e 1 g (row p n fs) (row_fits p n fs) ∙ ap (each (polynomials p n) (frobenius_twist p n e) {m = 1} {n = g}) (row_read fs)))
+      ∙ sym (twist_read p n e 1 g (row p n fs) (row_fits p n fs) ∙ ap (each (polynomials p n) (frobenius_twist p n e) {m = 1} {n = g}) (row_read p n fs)))
 
   -- matrix j of the twists
   at_twist : (ds : List (PolynomialMatrix p n)) (j : ℕ) → j < length ds → matrix_at p n (twists ds) j ≡ matrix_twist p n e (matrix_at p n ds j)
   unfolding matrix_at
   at_twist ds j b = get_or-map (matrix_twist p n e) ds j (matrix_zero p n 0 0) (matrix_zero p n 0 0) b
-
-  shape_cols : (a b : ℕ) (A : PolynomialMatrix p n) → HasShape p n a b A → length A.columns ≡ b
-  unfolding HasShape
-  shape_cols a b A s = s.1
-
-  single_member : (b : ℕ) (A : PolynomialMatrix p n) (f : Polynomial p n) → HasShape p n 1 b A
-      → InImage p n A (f ∷ []) ↔ image.InImage (matrices p n) (read (polynomials p n) 1 b A) (vector (polynomials p n) 1 (f ∷ []))
-  unfolding InImage HasShape
-  single_member b A f s = list_image (polynomials p n) (frobenius_twist p n) 1 b A (f ∷ []) s.0 s.1 refl
 
   module _ {fs : List (Polynomial p n)} {i : ℕ} {ds : List (PolynomialMatrix p n)} (r : IsResolutionOf p n fs i ds) where
     inside : (j : ℕ) → j ≤ i → j < length ds
@@ -67,7 +51,7 @@ module _ (p : Prime) (n e : ℕ) where
     same_columns : (j : ℕ) → j ≤ i → columns_of p n (twists ds) j ≡ columns_of p n ds j
     same_columns j b =
         let f = r.fits j (inside j b) in
-        ap (λ A. length A.columns) (at_twist ds j (inside j b)) ∙ shape_cols (rank p n ds j) (columns_of p n ds j) (matrix_twist p n e (matrix_at p n ds j)) (twist_fits p n e (rank p n ds j) (columns_of p n ds j) (matrix_at p n ds j) f)
+        ap (λ A. length A.columns) (at_twist ds j (inside j b)) ∙ shape_columns p n (rank p n ds j) (columns_of p n ds j) (matrix_twist p n e (matrix_at p n ds j)) (twist_fits p n e (rank p n ds j) (columns_of p n ds j) (matrix_at p n ds j) f)
 
     same_rank : (j : ℕ) → j ≤ i → rank p n (twists ds) j ≡ rank p n ds j
     same_rank zero b = refl
@@ -88,8 +72,8 @@ module _ (p : Prime) (n e : ℕ) where
         let df : HasShape p n 1 c (matrix_at p n ds zero) = r.fits zero (inside zero (omega arith)) in
         let v = vector (polynomials p n) 1 (f ∷ []) in
         let both : image.InImage (matrices p n) (each (polynomials p n) (frobenius_twist p n e) {m = 1} {n = c} A) v ↔ image.InImage (matrices p n) (each (polynomials p n) (frobenius_twist p n e) {m = 1} {n = g} B) v = (within_twist (matrices_laws p n) e A B (λ u h. (s u).0 h) v, within_twist (matrices_laws p n) e B A (λ u h. (s u).1 h) v) in
-        let a = subst (λ X. InImage p n (matrix_twist p n e (matrix_at p n ds zero)) (f ∷ []) ↔ image.InImage (matrices p n) X v) (twist_read p n e 1 c (matrix_at p n ds zero) df) (single_member c (matrix_twist p n e (matrix_at p n ds zero)) f (twist_fits p n e 1 c (matrix_at p n ds zero) df)) in
-        let b = subst (λ X. InImage p n (matrix_twist p n e (row p n fs)) (f ∷ []) ↔ image.InImage (matrices p n) X v) (twist_read p n e 1 g (row p n fs) (row_fits p n fs)) (single_member g (matrix_twist p n e (row p n fs)) f (twist_fits p n e 1 g (row p n fs) (row_fits p n fs))) in
+        let a = subst (λ X. InImage p n (matrix_twist p n e (matrix_at p n ds zero)) (f ∷ []) ↔ image.InImage (matrices p n) X v) (twist_read p n e 1 c (matrix_at p n ds zero) df) (image_words p n 1 c (matrix_twist p n e (matrix_at p n ds zero)) (f ∷ []) (twist_fits p n e 1 c (matrix_at p n ds zero) df) refl) in
+        let b = subst (λ X. InImage p n (matrix_twist p n e (row p n fs)) (f ∷ []) ↔ image.InImage (matrices p n) X v) (twist_read p n e 1 g (row p n fs) (row_fits p n fs)) (image_words p n 1 g (matrix_twist p n e (row p n fs)) (f ∷ []) (twist_fits p n e 1 g (row p n fs) (row_fits p n fs)) refl) in
         through a (through both (turned b))
 
     pub twisted_words : IsResolutionOf p n (powers fs) i (twists ds)

@@ -4,7 +4,8 @@ use Rattle.std.proofs.Math.Nat.{mul-zero}
 use native.Mathlib.Decide.{dec_le}
 use native.Mathlib.Bridge.{le_prop}
 use Rattle.fm_algebra.specs.Matrices.{Matrices, IsMatrices}
-use Rattle.fm_algebra.specs.Image.{InImage, Generates, SameImage, Everything, Flat, pow, IsPower}
+use Rattle.fm_algebra.specs.Image.{InImage, pow}
+use Rattle.fm_algebra.proofs.Generation.{Generates, SameImage, Everything, Flat, IsPower}
 use Rattle.fm_algebra.proofs.Images.{image_mul, image_twist, image_columns}
 use Rattle.fm_limit.specs.DirectSystem.{Degree, IsCoboundary, moved, IsKilledBy, IsZeroInLimit}
 use Rattle.fm_limit.specs.Limit.{VanishesInverting, Annihilates, IsEnough, IsSupportIdeal}

@@ -15,7 +15,7 @@ use Rattle.fm_limit.proofs.FactsRead.{matrices_laws, moves_read}
 use Rattle.fm_limit.proofs.Waist as waist
 use Rattle.fm_limit.proofs.Waist.{zero_fact, least_fact, killed_fact, zero_class_fact, root_fact, annihilates_fact, vanishes_fact, support_fact, power_more}
 use Rattle.fm_limit.proofs.ColonFacts.{never_fact}
-use Rattle.fm_limit.proofs.InducedFacts.{zero_map_fact, one_map_fact, onto_yes_fact, everything_rises, onto_repeat_fact}
+use Rattle.fm_limit.proofs.InducedFacts.{classes_fact, zero_map_fact, one_map_fact, onto_yes_fact, everything_rises, onto_repeat_fact}
 
 -- a number for which P holds, but not for the one before it, is the least, where P goes up
 least_by_last : (P : ℕ → Type 0) (m : ℕ) → P m → ((k : ℕ) → k < m → P k → (j : ℕ) × (suc j ≡ m) × P j) → ((j : ℕ) → suc j ≡ m → P j → ⊥) → IsLeast P m
@@ -79,7 +79,7 @@ module _ (p : Prime) (n : ℕ) where
     pub map_verdict : (C : PolynomialMatrix p n) → HasShape p n (length ZS.columns) (length C.columns) C → GeneratesPreimage p n C Phi (matrix_at p n KT t)
         → (is_zero is_one : Bool) (onto : Option ℕ) → IsTrue is_zero ↔ ColumnsInImage p n (matrix_at p n KT t) Phi → IsTrue is_one ↔ ColumnsInImage p n (matrix_at p n KS s) C
         → HoldsOfOnto p n i source target ls onto → Holds p n (induced_map i source target ls is_zero is_one onto)
-    map_verdict C c g is_zero is_one onto a b o = (through a (zero_map_fact p n X Y F), through b (one_map_fact p n X Y F C c g), o)
+    map_verdict C c g is_zero is_one onto a b o = (classes_fact p n X Y F, through a (zero_map_fact p n X Y F), through b (one_map_fact p n X Y F C c g), o)
 
     pub onto_yes_verdict : (Ws : List (PolynomialMatrix p n)) (r : ℕ) → JoinFacts p n (matrix_at p n KT 0) Phi UT Ws r → IsEverything p n (matrix_at p n Ws r)
         → ((k : ℕ) → suc k ≡ r → IsEverything p n (matrix_at p n Ws k) → ⊥) → HoldsOfOnto p n i source target ls (Some r)

@@ -4,15 +4,16 @@ use Rattle.fm_gfp.specs.Primes.{prime_value}
 use Rattle.fm_gfp.specs.declared.prime.Prime.{Prime}
 use Rattle.fm_algebra.specs.Matrix.{component}
 use Rattle.fm_algebra.specs.Families.{only, Mat, mul, each, scalar, read, vector, element}
-use Rattle.fm_algebra.specs.Image.{InImage, Everything, SameImage, pow}
+use Rattle.fm_algebra.specs.Image.{InImage, pow}
+use Rattle.fm_algebra.proofs.Generation.{Everything, SameImage}
 use Rattle.fm_algebra.specs.Polynomials.{Polynomial, polynomials, polynomial_power, frobenius_twist}
 use Rattle.fm_algebra.specs.PolynomialMatrices as words
 use Rattle.fm_algebra.specs.PolynomialMatrices.{PolynomialMatrix, HasShape, matrix_unit, matrix_scalar, matrix_twist, vector_product, InKernel, InPreimage}
 use Rattle.fm_algebra.proofs.Concrete.{polynomials_laws}
-use Rattle.fm_algebra.proofs.Tables.{unit_shaped, read_scalar, scalar_shaped, vector_apply}
-use Rattle.fm_algebra.proofs.Images.{everything_columns, within_columns}
-use Rattle.fm_algebra.proofs.FamilyPowers.{single, element_power}
-use Rattle.fm_algebra.proofs.ListImages.{through, turned, list_image}
+use Rattle.fm_algebra.proofs.Tables.{vector_apply}
+use Rattle.fm_algebra.proofs.Images.{within_columns}
+use Rattle.fm_algebra.proofs.FamilyPowers.{single}
+use Rattle.fm_algebra.proofs.ListImages.{through, turned}
 use Rattle.fm_limit.specs.DirectSystem.{IsKilledBy, IsZeroInLimit}
 use Rattle.fm_limit.specs.ResolvedIdeal.{ResolvedIdeal, matrix_at, columns_of, row, InIdeal}
 use Rattle.fm_limit.specs.Limit.{IsRoot}
@@ -21,48 +22,11 @@ use Rattle.fm_limit.specs.Facts.{ColumnsInImage, IsEverything, IsFirstRepeat, Ar
 use Rattle.fm_limit.specs.Verdicts.{IsLeast}
 use Rattle.fm_limit.proofs.Moves.{killed_exactly, zero_exactly, is_root, zero_limit}
 use Rattle.fm_limit.proofs.Vanishing.{stable_least, annihilates_exactly, vanishes_exactly, support_exactly, scalar_more}
-use Rattle.fm_limit.proofs.FactsRead.{matrices_laws, matrices_flat, matrices_power, row_fits, unit_read, twist_read, twist_fits, columns_from, member, member_fits, moves_read, facts_read}
+use Rattle.fm_limit.proofs.FactsRead.{matrices_laws, matrices_flat, matrices_power, member, member_fits, moves_read, facts_read}
+use Rattle.fm_limit.proofs.MatrixWords.{image_words, shape_rows, twist_read, twist_fits, row_fits, columns_from, everything_read, scalar_columns_read, powers}
 
 module _ (p : Prime) (n : ℕ) where
   -- ---- words of lists
-  vector_image : (a b : ℕ) (A : PolynomialMatrix p n) (v : List (Polynomial p n)) → HasShape p n a b A → length v ≡ a
-      → words.InImage p n A v ↔ InImage (matrices p n) (read (polynomials p n) a b A) (vector (polynomials p n) a v)
-  unfolding HasShape words.InImage
-  vector_image a b A v s e = list_image (polynomials p n) (frobenius_twist p n) a b A v s.0 s.1 e
-
-  unit_fits : (a : ℕ) → HasShape p n a a (matrix_unit p n a)
-  unfolding HasShape matrix_unit
-  unit_fits a = unit_shaped (polynomials p n) a
-
-  pub scalar_fits : (f : Polynomial p n) (a : ℕ) → HasShape p n a a (matrix_scalar p n f a)
-  unfolding HasShape matrix_scalar
-  scalar_fits f a = scalar_shaped (polynomials p n) f a
-
-  pub scalar_read : (f : Polynomial p n) (a : ℕ) → read (polynomials p n) a a (matrix_scalar p n f a) ≡ scalar (polynomials p n) (element (polynomials p n) f) a
-  unfolding matrix_scalar
-  scalar_read f a = read_scalar (polynomials p n) f a
-
-  pub shape_rows : (a b : ℕ) (A : PolynomialMatrix p n) → HasShape p n a b A → A.rows ≡ a
-  unfolding HasShape
-  shape_rows a b A s = s.0
-
-  pub powers : (f : Polynomial p n) (k : ℕ) → element (polynomials p n) (polynomial_power p n k f) ≡ pow (matrices p n) (element (polynomials p n) f) k
-  unfolding polynomial_power
-  powers f k = element_power (polynomials_laws p n) (frobenius_twist p n) f k
-
-  -- im A is everything exactly if it has the columns of the unit matrix
-  pub everything_read : (a b : ℕ) (A : PolynomialMatrix p n) → HasShape p n a b A → IsEverything p n A ↔ Everything (matrices p n) (read (polynomials p n) a b A)
-  everything_read a b A s =
-      subst (λ r. ColumnsInImage p n A (matrix_unit p n r) ↔ Everything (matrices p n) (read (polynomials p n) a b A)) (sym (shape_rows a b A s))
-      (through (columns_from p n a b a A (matrix_unit p n a) s (unit_fits a)) (subst (λ X. InImage (matrices p n) (read (polynomials p n) a b A) X ↔ Everything (matrices p n) (read (polynomials p n) a b A)) (sym (unit_read p n a)) (turned (everything_columns (matrices_laws p n) (read (polynomials p n) a b A)))))
-
-  -- f times the unit matrix has its columns in im A
-  pub scalar_columns_read : (f : Polynomial p n) (a b : ℕ) (A : PolynomialMatrix p n) → HasShape p n a b A
-      → ColumnsInImage p n A (matrix_scalar p n f A.rows) ↔ InImage (matrices p n) (read (polynomials p n) a b A) (scalar (polynomials p n) (element (polynomials p n) f) a)
-  scalar_columns_read f a b A s =
-      subst (λ r. ColumnsInImage p n A (matrix_scalar p n f r) ↔ InImage (matrices p n) (read (polynomials p n) a b A) (scalar (polynomials p n) (element (polynomials p n) f) a)) (sym (shape_rows a b A s))
-      (subst (λ X. ColumnsInImage p n A (matrix_scalar p n f a) ↔ InImage (matrices p n) (read (polynomials p n) a b A) X) (scalar_read f a) (columns_from p n a b a A (matrix_scalar p n f a) s (scalar_fits f a)))
-
   module _ {i : ℕ} {I : ResolvedIdeal p n} {Z U : PolynomialMatrix p n} {Ks : List (PolynomialMatrix p n)} {t : ℕ} (X : DegreeFacts p n i I Z U Ks t) where
     -- the stable kernel
     abbrev pub S : PolynomialMatrix p n
@@ -76,7 +40,7 @@ module _ (p : Prime) (n : ℕ) where
 
     -- the shape of the stable kernel, by its own number of rows
     pub stable_shape : HasShape p n S.rows (length S.columns) S
-    stable_shape = subst (λ r. HasShape p n r (columns_of p n Ks t) S) (sym (shape_rows g (columns_of p n Ks t) S stable_fits)) stable_fits
+    stable_shape = subst (λ r. HasShape p n r (columns_of p n Ks t) S) (sym (shape_rows p n g (columns_of p n Ks t) S stable_fits)) stable_fits
 
     min_same : min t t ≡ t
     min_same = omega arith
@@ -89,7 +53,7 @@ module _ (p : Prime) (n : ℕ) where
     pub zero_fact : IsEverything p n S ↔ IsZeroLimit p n i I
     unfolding IsZeroLimit
     zero_fact =
-        through (everything_read g (columns_of p n Ks t) S stable_fits)
+        through (everything_read p n g (columns_of p n Ks t) S stable_fits)
         (turned (at_stable (λ k A. IsZeroLimit p n i I ↔ Everything (matrices p n) A) (zero_limit (matrices_laws p n) (matrices_flat p n) (moves_read p n X.resolved) (facts_read p n X))))
 
     -- the first repeat is the least number of moves
@@ -119,7 +83,7 @@ module _ (p : Prime) (n : ℕ) where
     twist_member e s w b l =
         let f = member_fits p n g (X.ext).morphism_fits X.chain s b in
         let k = columns_of p n Ks s in
-        subst (λ A. words.InImage p n (matrix_twist p n e (matrix_at p n Ks s)) w ↔ InImage (matrices p n) A (vector (polynomials p n) g w)) (twist_read p n e g k (matrix_at p n Ks s) f) (vector_image g k (matrix_twist p n e (matrix_at p n Ks s)) w (twist_fits p n e g k (matrix_at p n Ks s) f) l)
+        subst (λ A. words.InImage p n (matrix_twist p n e (matrix_at p n Ks s)) w ↔ InImage (matrices p n) A (vector (polynomials p n) g w)) (twist_read p n e g k (matrix_at p n Ks s) f) (image_words p n g k (matrix_twist p n e (matrix_at p n Ks s)) w (twist_fits p n e g k (matrix_at p n Ks s) f) l)
 
     -- s moves kill a class exactly if its coordinates are in the image of the twist of K_s
     pub killed_fact : (e : ℕ) (z w : List (Polynomial p n)) → AreCoordinates p n Z e z w → (s : ℕ) → s ≤ t
@@ -141,15 +105,18 @@ module _ (p : Prime) (n : ℕ) where
 
     -- ---- roots
     pub root_fact : IsRootOf p n i I Z S U
-    unfolding IsRootOf
-    root_fact =
-        at_stable (λ k A. IsRoot (matrices p n) (degree_in p n i I) g k (read (polynomials p n) (length_in p n i I) g Z) A (read (polynomials p n) g g U)) (is_root (matrices_laws p n) (matrices_flat p n) (moves_read p n X.resolved) (facts_read p n X))
+    root_fact = record {
+      generators_fit = (X.ext).cocycles_fit;
+      kernel_fits = stable_fits;
+      morphism_fits = (X.ext).morphism_fits;
+      root = at_stable (λ k A. IsRoot (matrices p n) (degree_in p n i I) g k (read (polynomials p n) (length_in p n i I) g Z) A (read (polynomials p n) g g U)) (is_root (matrices_laws p n) (matrices_flat p n) (moves_read p n X.resolved) (facts_read p n X));
+    }
 
     -- ---- annihilators, inverting, support
     pub annihilates_fact : (a : Polynomial p n) → ColumnsInImage p n S (matrix_scalar p n a S.rows) ↔ AnnihilatesClasses p n i I a
     unfolding AnnihilatesClasses
     annihilates_fact a =
-        through (scalar_columns_read a g (columns_of p n Ks t) S stable_fits)
+        through (scalar_columns_read p n a g (columns_of p n Ks t) S stable_fits)
         (at_stable (λ k A. InImage (matrices p n) A (scalar (polynomials p n) (element (polynomials p n) a) g) ↔ AnnihilatesClasses p n i I a) (annihilates_exactly (matrices_laws p n) (matrices_flat p n) (moves_read p n X.resolved) (facts_read p n X) (element (polynomials p n) a)))
 
     vanishes_read : (f : Polynomial p n) → VanishesAfterInverting p n i I f ↔ ((k : ℕ) × InImage (matrices p n) (member p n g Ks t) (scalar (polynomials p n) (pow (matrices p n) (element (polynomials p n) f) k) g))
@@ -159,7 +126,7 @@ module _ (p : Prime) (n : ℕ) where
 
     power_columns : (f : Polynomial p n) (k : ℕ) → ColumnsInImage p n S (matrix_scalar p n (polynomial_power p n k f) S.rows) ↔ InImage (matrices p n) (member p n g Ks t) (scalar (polynomials p n) (pow (matrices p n) (element (polynomials p n) f) k) g)
     power_columns f k =
-        subst (λ a. ColumnsInImage p n S (matrix_scalar p n (polynomial_power p n k f) S.rows) ↔ InImage (matrices p n) (member p n g Ks t) (scalar (polynomials p n) a g)) (powers f k) (scalar_columns_read (polynomial_power p n k f) g (columns_of p n Ks t) S stable_fits)
+        subst (λ a. ColumnsInImage p n S (matrix_scalar p n (polynomial_power p n k f) S.rows) ↔ InImage (matrices p n) (member p n g Ks t) (scalar (polynomials p n) a g)) (powers p n f k) (scalar_columns_read p n (polynomial_power p n k f) g (columns_of p n Ks t) S stable_fits)
 
     -- what a power does, so does a higher one
     pub power_more : (f : Polynomial p n) (k j : ℕ) → ColumnsInImage p n S (matrix_scalar p n (polynomial_power p n k f) S.rows) → ColumnsInImage p n S (matrix_scalar p n (polynomial_power p n (k + j) f) S.rows)
@@ -179,11 +146,11 @@ module _ (p : Prime) (n : ℕ) where
       where
         -- an element of the ring as a list of one entry
         single_member : (f : Polynomial p n) → InIdeal p n fs f ↔ InImage (matrices p n) (read (polynomials p n) 1 (length fs) (row p n fs)) (element (polynomials p n) f)
-        single_member f = subst (λ x. InIdeal p n fs f ↔ InImage (matrices p n) (read (polynomials p n) 1 (length fs) (row p n fs)) x) (single (polynomials_laws p n) (frobenius_twist p n) (vector (polynomials p n) 1 (f ∷ [])) (element (polynomials p n) f) refl) (vector_image 1 (length fs) (row p n fs) (f ∷ []) (row_fits p n fs) refl)
+        single_member f = subst (λ x. InIdeal p n fs f ↔ InImage (matrices p n) (read (polynomials p n) 1 (length fs) (row p n fs)) x) (single (polynomials_laws p n) (frobenius_twist p n) (vector (polynomials p n) 1 (f ∷ [])) (element (polynomials p n) f) refl) (image_words p n 1 (length fs) (row p n fs) (f ∷ []) (row_fits p n fs) refl)
 
         at_element : (f : Polynomial p n) → InImage (matrices p n) (read (polynomials p n) 1 (length fs) (row p n fs)) (element (polynomials p n) f) ↔ InImage (matrices p n) (member p n g Ks (min t t)) (scalar (polynomials p n) (element (polynomials p n) f) g)
         at_element f =
-            through (turned (single_member f)) (through (m f) (through (scalar_columns_read f g (columns_of p n Ks t) S stable_fits) (subst (λ x. InImage (matrices p n) (member p n g Ks t) (scalar (polynomials p n) (element (polynomials p n) f) g) ↔ InImage (matrices p n) (member p n g Ks x) (scalar (polynomials p n) (element (polynomials p n) f) g)) (sym min_same) ((λ h. h), (λ h. h)))))
+            through (turned (single_member f)) (through (m f) (through (scalar_columns_read p n f g (columns_of p n Ks t) S stable_fits) (subst (λ x. InImage (matrices p n) (member p n g Ks t) (scalar (polynomials p n) (element (polynomials p n) f) g) ↔ InImage (matrices p n) (member p n g Ks x) (scalar (polynomials p n) (element (polynomials p n) f) g)) (sym min_same) ((λ h. h), (λ h. h)))))
 
         members : (a : Mat (polynomials p n) 1 1) → InImage (matrices p n) (read (polynomials p n) 1 (length fs) (row p n fs)) a ↔ InImage (matrices p n) (member p n g Ks (min t t)) (scalar (polynomials p n) a g)
         members a =

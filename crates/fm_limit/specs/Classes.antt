@@ -4,7 +4,7 @@ use Rattle.fm_gfp.specs.declared.prime.Prime.{Prime}
 use Rattle.fm_algebra.specs.Matrices.{Matrices}
 use Rattle.fm_algebra.specs.Families.{add, neg, families, read, vector, element}
 use Rattle.fm_algebra.specs.Polynomials.{Polynomial, polynomials, frobenius_twist}
-use Rattle.fm_algebra.specs.PolynomialMatrices.{PolynomialMatrix, matrix_transpose, matrix_twist, vector_product}
+use Rattle.fm_algebra.specs.PolynomialMatrices.{PolynomialMatrix, HasShape, matrix_transpose, matrix_twist, vector_product}
 use Rattle.fm_algebra.specs.Image as image
 use Rattle.fm_limit.specs.Resolution.{Complex}
 use Rattle.fm_limit.specs.DirectSystem.{Degree, degree, IsCocycle, IsCoboundary, IsKilledBy, IsZeroInLimit, IsSameInLimit}
@@ -85,10 +85,12 @@ module _ (p : Prime) (n : ℕ) where
   unfoldable pub IsEnoughMoves : ℕ → ResolvedIdeal p n → ℕ → Type 0
   IsEnoughMoves i I t = IsEnough (matrices p n) (degree_in i I) t
 
-  -- (Z, K, U) is a root of the limit
-  unfoldable pub IsRootOf : ℕ → ResolvedIdeal p n → (Z K U : PolynomialMatrix p n) → Type 0
-  IsRootOf i I Z K U =
-      IsRoot (matrices p n) (degree_in i I) (length Z.columns) (length K.columns) (read (polynomials p n) (length_in i I) (length Z.columns) Z) (read (polynomials p n) (length Z.columns) (length K.columns) K) (read (polynomials p n) (length Z.columns) (length Z.columns) U)
+  -- (Z, K, U) is a root of the limit, in matrices whose shapes fit
+  pub record IsRootOf (i : ℕ) (I : ResolvedIdeal p n) (Z K U : PolynomialMatrix p n) : Type 0 where
+    pub generators_fit : HasShape p n (length_in i I) (length Z.columns) Z
+    pub kernel_fits : HasShape p n (length Z.columns) (length K.columns) K
+    pub morphism_fits : HasShape p n (length Z.columns) (length Z.columns) U
+    pub root : IsRoot (matrices p n) (degree_in i I) (length Z.columns) (length K.columns) (read (polynomials p n) (length_in i I) (length Z.columns) Z) (read (polynomials p n) (length Z.columns) (length K.columns) K) (read (polynomials p n) (length Z.columns) (length Z.columns) U)
 
   -- the ideal of the given polynomials is a support ideal of the limit
   unfoldable pub IsSupportIdealOf : ℕ → ResolvedIdeal p n → List (Polynomial p n) → Type 0
@@ -102,6 +104,10 @@ module _ (p : Prime) (n : ℕ) where
   -- the image of (e, z): the transpose of lambda_i^[q] times z
   unfoldable pub image_of : (i : ℕ) (ls : List (PolynomialMatrix p n)) (e : ℕ) → List (Polynomial p n) → List (Polynomial p n)
   image_of i ls e z = vector_product p n (matrix_transpose p n (matrix_twist p n e (matrix_at p n ls i))) z
+
+  -- it takes classes to classes
+  abbrev pub IsMapOfClasses : (i : ℕ) (J I : ResolvedIdeal p n) → List (PolynomialMatrix p n) → Type 0
+  IsMapOfClasses i J I ls = (e : ℕ) (z : List (Polynomial p n)) → IsClass i J e z → IsClass i I e (image_of i ls e z)
 
   -- every image is zero in the limit
   unfoldable pub IsZeroMap : (i : ℕ) (J I : ResolvedIdeal p n) → List (PolynomialMatrix p n) → Type 0

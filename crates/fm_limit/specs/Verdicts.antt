@@ -5,7 +5,7 @@ use Rattle.fm_gfp.specs.declared.prime.Prime.{Prime}
 use Rattle.fm_algebra.specs.Polynomials.{Polynomial, polynomial_power}
 use Rattle.fm_algebra.specs.PolynomialMatrices.{PolynomialMatrix}
 use Rattle.fm_limit.specs.ResolvedIdeal.{ResolvedIdeal, rank, InIdeal, IsResolutionOf}
-use Rattle.fm_limit.specs.Classes.{IsClass, IsCoboundaryAfter, IsZeroClass, IsZeroLimit, VanishesAfterInverting, AnnihilatesClasses, IsEnoughMoves, IsRootOf, IsSupportIdealOf, IsZeroMap, IsOneToOneMap, IsOntoMap, IsOntoAfter}
+use Rattle.fm_limit.specs.Classes.{IsClass, IsCoboundaryAfter, IsZeroClass, IsZeroLimit, VanishesAfterInverting, AnnihilatesClasses, IsEnoughMoves, IsRootOf, IsSupportIdealOf, IsMapOfClasses, IsZeroMap, IsOneToOneMap, IsOntoMap, IsOntoAfter}
 use Rattle.fm_limit.specs.Facts.{PresentsExt}
 
 -- m is the least number for which P holds
@@ -56,7 +56,7 @@ module _ (p : Prime) (n : ℕ) where
   Holds (inverting i I f power) = HoldsOfInverting i I f power
   Holds (support i I ideal) = IsSupportIdealOf p n i I ideal × ((a : Polynomial p n) → InIdeal p n ideal a ↔ AnnihilatesClasses p n i I a)
   Holds (root i I Z K U g t) = (length Z.columns ≡ g) × IsRootOf p n i I Z K U × IsLeast (IsEnoughMoves p n i I) t
-  Holds (induced_map i source target ls is_zero is_one onto) = (IsTrue is_zero ↔ IsZeroMap p n i source target ls) × (IsTrue is_one ↔ IsOneToOneMap p n i source target ls) × HoldsOfOnto i source target ls onto
+  Holds (induced_map i source target ls is_zero is_one onto) = IsMapOfClasses p n i source target ls × (IsTrue is_zero ↔ IsZeroMap p n i source target ls) × (IsTrue is_one ↔ IsOneToOneMap p n i source target ls) × HoldsOfOnto i source target ls onto
   Holds (member fs f answer) = IsTrue answer ↔ InIdeal p n fs f
   Holds (resolution fs i ds ranks) = IsResolutionOf p n fs i ds × (ranks ≡ listed (i + 2) (rank p n ds))
   Holds (ext i I Z N U g r) = (length Z.columns ≡ g) × (length N.columns ≡ r) × PresentsExt p n i I Z N U

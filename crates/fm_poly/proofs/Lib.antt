@@ -15,3 +15,4 @@ pub mod KeptTerms
 pub mod PieceSteps
 pub mod SpellingSteps
 pub mod TestNames
+pub mod LargeProducts

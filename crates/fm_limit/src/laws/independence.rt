@@ -4,8 +4,8 @@ ghost use Rattle.fm_gfp.specs.declared.prime.Prime.{Prime};
 ghost use Rattle.fm_algebra.specs.Polynomials.{Polynomial};
 ghost use Rattle.fm_algebra.specs.PolynomialMatrices.{PolynomialMatrix};
 ghost use Rattle.fm_limit.specs.ResolvedIdeal.{ResolvedIdeal, LiesIn, IsResolved, IsLiftOfIdentityOf};
-ghost use Rattle.fm_limit.specs.Classes.{image_of, IsClass, IsCoboundaryAfter, IsZeroClass, IsSameClass, IsZeroLimit, VanishesAfterInverting, AnnihilatesClasses, IsEnoughMoves, IsSupportIdealOf, IsZeroMap, IsOneToOneMap, IsOntoMap, IsOntoAfter};
-ghost use Rattle.fm_limit.specs.Verdicts.{Holds, zero_limit, inverting, support};
+ghost use Rattle.fm_limit.specs.Classes.{image_of, IsClass, IsCoboundaryAfter, IsZeroClass, IsSameClass, IsZeroLimit, VanishesAfterInverting, AnnihilatesClasses, IsEnoughMoves, IsSupportIdealOf, IsMapOfClasses, IsZeroMap, IsOneToOneMap, IsOntoMap, IsOntoAfter};
+ghost use Rattle.fm_limit.specs.Verdicts.{Holds, zero_limit, inverting, support, induced_map};
 
 /// For two resolutions of one ideal, with any generators and any Frobenius lifts, the same is said of the limit: whether it is zero, whether it vanishes after inverting f, which elements annihilate the classes of stage 0, how many moves are enough, and which ideals are support ideals.
 pub fn the_limit_does_not_depend_on_the_resolution()
@@ -65,24 +65,33 @@ pub fn the_induced_map_does_not_depend_on_the_resolution()
         → IsResolved p n i I → IsResolved p n i J → IsResolved p n i I2 → IsResolved p n i J2
         → LiesIn p n I.generators I2.generators → LiesIn p n I2.generators I.generators → LiesIn p n J.generators J2.generators → LiesIn p n J2.generators J.generators
         → IsLiftOfIdentityOf p n i I.differentials J.differentials ls → IsLiftOfIdentityOf p n i I2.differentials J2.differentials ms
-        → ((e : ℕ) (z : List (Polynomial p n)) → IsClass p n i J e z → IsClass p n i I e (image_of p n i ls e z))
+        → IsMapOfClasses p n i J I ls
         → IsZeroMap p n i J I ls → IsZeroMap p n i J2 I2 ms }
     ensures one_to_one { (p : Prime) (n i : ℕ) (I J I2 J2 : ResolvedIdeal p n) (ls ms : List (PolynomialMatrix p n))
         → IsResolved p n i I → IsResolved p n i J → IsResolved p n i I2 → IsResolved p n i J2
         → LiesIn p n I.generators I2.generators → LiesIn p n I2.generators I.generators → LiesIn p n J.generators J2.generators → LiesIn p n J2.generators J.generators
         → IsLiftOfIdentityOf p n i I.differentials J.differentials ls → IsLiftOfIdentityOf p n i I2.differentials J2.differentials ms
-        → ((e : ℕ) (z : List (Polynomial p n)) → IsClass p n i J e z → IsClass p n i I e (image_of p n i ls e z))
+        → IsMapOfClasses p n i J I ls
         → IsOneToOneMap p n i J I ls → IsOneToOneMap p n i J2 I2 ms }
     ensures onto { (p : Prime) (n i : ℕ) (I J I2 J2 : ResolvedIdeal p n) (ls ms : List (PolynomialMatrix p n))
         → IsResolved p n i I → IsResolved p n i J → IsResolved p n i I2 → IsResolved p n i J2
         → LiesIn p n I.generators I2.generators → LiesIn p n I2.generators I.generators → LiesIn p n J.generators J2.generators → LiesIn p n J2.generators J.generators
         → IsLiftOfIdentityOf p n i I.differentials J.differentials ls → IsLiftOfIdentityOf p n i I2.differentials J2.differentials ms
-        → ((e : ℕ) (z : List (Polynomial p n)) → IsClass p n i J e z → IsClass p n i I e (image_of p n i ls e z))
+        → IsMapOfClasses p n i J I ls
         → IsOntoMap p n i J I ls → IsOntoMap p n i J2 I2 ms }
     ensures moves { (p : Prime) (n i : ℕ) (I J I2 J2 : ResolvedIdeal p n) (ls ms : List (PolynomialMatrix p n))
         → IsResolved p n i I → IsResolved p n i J → IsResolved p n i I2 → IsResolved p n i J2
         → LiesIn p n I.generators I2.generators → LiesIn p n I2.generators I.generators → LiesIn p n J.generators J2.generators → LiesIn p n J2.generators J.generators
         → IsLiftOfIdentityOf p n i I.differentials J.differentials ls → IsLiftOfIdentityOf p n i I2.differentials J2.differentials ms
-        → ((e : ℕ) (z : List (Polynomial p n)) → IsClass p n i J e z → IsClass p n i I e (image_of p n i ls e z))
+        → IsMapOfClasses p n i J I ls
         → (s : ℕ) → IsOntoAfter p n i J I ls s → IsOntoAfter p n i J2 I2 ms s }
+{}
+
+/// A verdict on the map of the limits that holds for one choice of resolutions, Frobenius lifts and lift of the identity holds for all.
+pub fn the_verdict_on_an_induced_map_holds_for_every_choice()
+    ensures { (p : Prime) (n i : ℕ) (I J I2 J2 : ResolvedIdeal p n) (ls ms : List (PolynomialMatrix p n))
+        → IsResolved p n i I → IsResolved p n i J → IsResolved p n i I2 → IsResolved p n i J2
+        → LiesIn p n I.generators I2.generators → LiesIn p n I2.generators I.generators → LiesIn p n J.generators J2.generators → LiesIn p n J2.generators J.generators
+        → IsLiftOfIdentityOf p n i I.differentials J.differentials ls → IsLiftOfIdentityOf p n i I2.differentials J2.differentials ms
+        → (is_zero is_one : Bool) (onto : Option ℕ) → Holds p n (induced_map i J I ls is_zero is_one onto) → Holds p n (induced_map i J2 I2 ms is_zero is_one onto) }
 {}

@@ -5,7 +5,7 @@ ghost use Rattle.fm_algebra.specs.Matrix.{listed};
 ghost use Rattle.fm_algebra.specs.Polynomials.{Polynomial, polynomial_power};
 ghost use Rattle.fm_algebra.specs.PolynomialMatrices.{PolynomialMatrix, HasShape, matrix_scalar, matrix_twist, InImage, GeneratesPreimage};
 ghost use Rattle.fm_limit.specs.ResolvedIdeal.{ResolvedIdeal, matrix_at, rank, InIdeal, IsResolutionOf};
-ghost use Rattle.fm_limit.specs.Classes.{IsClass, IsCoboundaryAfter, IsZeroClass, IsZeroMap, IsOneToOneMap, IsOntoMap, VanishesAfterInverting};
+ghost use Rattle.fm_limit.specs.Classes.{IsClass, IsCoboundaryAfter, IsZeroClass, IsMapOfClasses, IsZeroMap, IsOneToOneMap, IsOntoMap, VanishesAfterInverting};
 ghost use Rattle.fm_limit.specs.Facts.{ColumnsInImage, IsEverything, IsFirstRepeat, AreCoordinates, PresentsExt, DegreeFacts, MapFacts, JoinFacts, IsColons};
 ghost use Rattle.fm_limit.specs.Verdicts.{Holds, HoldsOfOnto, zero_limit, zero_class, inverting, support, root, induced_map, member, resolution, ext};
 
@@ -93,6 +93,8 @@ pub fn facts_give_the_verdict_on_an_induced_map()
         → (Ws : List (PolynomialMatrix p n)) (r : ℕ) → JoinFacts p n (matrix_at p n KT 0) Phi UT Ws (suc r)
         → ColumnsInImage p n (matrix_at p n Ws r) (matrix_at p n Ws (suc r)) → (IsEverything p n (matrix_at p n Ws r) → ⊥)
         → HoldsOfOnto p n i source target ls None }
+    ensures classes { (p : Prime) (n i : ℕ) (source target : ResolvedIdeal p n) (ZS US ZT UT Phi : PolynomialMatrix p n) (KS KT ls : List (PolynomialMatrix p n)) (s t : ℕ)
+        → DegreeFacts p n i source ZS US KS s → DegreeFacts p n i target ZT UT KT t → MapFacts p n i source target ls ZS ZT Phi → IsMapOfClasses p n i source target ls }
     ensures zero { (p : Prime) (n i : ℕ) (source target : ResolvedIdeal p n) (ZS US ZT UT Phi : PolynomialMatrix p n) (KS KT ls : List (PolynomialMatrix p n)) (s t : ℕ)
         → DegreeFacts p n i source ZS US KS s → DegreeFacts p n i target ZT UT KT t → MapFacts p n i source target ls ZS ZT Phi → ColumnsInImage p n (matrix_at p n KT t) Phi ↔ IsZeroMap p n i source target ls }
     ensures one_to_one { (p : Prime) (n i : ℕ) (source target : ResolvedIdeal p n) (ZS US ZT UT Phi : PolynomialMatrix p n) (KS KT ls : List (PolynomialMatrix p n)) (s t : ℕ)

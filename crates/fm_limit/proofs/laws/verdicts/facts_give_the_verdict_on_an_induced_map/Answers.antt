@@ -1,4 +1,4 @@
-use Rattle.fm_limit.proofs.InducedFacts.{one_map_fact, onto_repeat_fact, zero_map_fact}
+use Rattle.fm_limit.proofs.InducedFacts.{classes_fact, one_map_fact, onto_repeat_fact, zero_map_fact}
 use Rattle.fm_limit.proofs.VerdictLaws.{map_verdict, onto_no_verdict, onto_yes_verdict}
 use Rattle.fm_limit.proofs.laws.verdicts.facts_give_the_verdict_on_an_induced_map.Goals as goal
 
@@ -10,6 +10,9 @@ returns-clause-onto c = λ p n i source target ZS US ZT UT Phi KS KT ls s t X Y 
 
 pub returns-clause-not_onto : goal.returns-clause-not_onto
 returns-clause-not_onto c = λ p n i source target ZS US ZT UT Phi KS KT ls s t X Y F. onto_no_verdict p n X Y F
+
+pub returns-clause-classes : goal.returns-clause-classes
+returns-clause-classes c = λ p n i source target ZS US ZT UT Phi KS KT ls s t X Y F. classes_fact p n X Y F
 
 pub returns-clause-zero : goal.returns-clause-zero
 returns-clause-zero c = λ p n i source target ZS US ZT UT Phi KS KT ls s t X Y F. zero_map_fact p n X Y F
