@@ -1,6 +1,9 @@
 // Polynomials over GF(p) as falling lists of terms.
 #![tactic(auto)]
 
+pub(crate) mod collecting;
+pub(crate) mod merging;
+pub(crate) mod multiplying;
 pub mod poly;
 pub mod poly_error;
 pub mod ring;
