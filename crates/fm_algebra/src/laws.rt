@@ -1,6 +1,5 @@
 // The laws of the algebra.
 
-pub mod matrices;
 pub mod examples;
 pub mod heads;
 pub mod matrices;
