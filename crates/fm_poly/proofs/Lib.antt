@@ -3,3 +3,7 @@ pub mod MergeSteps
 pub mod CollectSteps
 pub mod SeenValues
 pub mod ProductSteps
+pub mod BoundSteps
+pub mod PowerSteps
+pub mod TwistSteps
+pub mod KeptTerms

@@ -1,5 +1,5 @@
 -- A term times a canonical list, and products by halves
-use Rattle.std.proofs.Common.{◌≡◌, ◌<◌, ℕ, ◌*◌, ◌%◌, Bool, ◌&&◌, true, false, List, [], ◌∷◌, ◌++◌, map, length, All, inl, inr, refl, ap, ap₂, sym, ◌∙◌, subst, arith}
+use Rattle.std.proofs.Common.{◌≡◌, ◌<◌, ℕ, ◌*◌, ◌%◌, ◌&&◌, List, [], ◌∷◌, ◌++◌, length, All, inl, inr, refl, ap, ap₂, sym, ◌∙◌, subst, arith}
 use Rattle.std.proofs.Math.Nat.{mod-eq_of_lt}
 use Rattle.std.proofs.lemmas.List.{nil_from_length}
 use Rattle.std.proofs.lemmas.List.Elements.{All-nil, All-cons}
@@ -9,11 +9,10 @@ use Rattle.std.specs.declared.cmp.Ordering.TheVariants.{Less}
 use Rattle.fm_tuple.specs.Tuple.{tuple_sum}
 use Rattle.fm_tuple.proofs.Tuples.{length_tuple_sum, tuple_sum_comm}
 use Rattle.fm_gfp.specs.Primes.{prime_value}
-use Rattle.fm_gfp.specs.declared.prime.Prime.{Prime}
 use Rattle.fm_gfp.proofs.Residues.{prime_positive, no_zero_divisors}
 use Rattle.fm_mono.specs.Orders.{monomial_cmp}
 use Rattle.fm_mono.proofs.OrderLaws.{monomial_cmp_sum}
-use Rattle.fm_algebra.specs.Polynomials.{Polynomial, polynomials, polynomial_zero, polynomial_sum, polynomial_product, polynomial_term, polynomial_of}
+use Rattle.fm_algebra.specs.Polynomials.{Polynomial, polynomial_zero, polynomial_sum, polynomial_product, polynomial_term, polynomial_of}
 use Rattle.fm_algebra.proofs.Algebra.{add_mul, zero_mul}
 use Rattle.fm_algebra.proofs.Concrete.{polynomials_laws}
 use Rattle.fm_algebra.proofs.TermWords.{AllFit, shifted_terms, term_times, of_modulo}
@@ -53,7 +52,7 @@ module _ (r : Ring) where
   all_fit (t ∷ ts) w = (w.0, all_fit ts w.3)
 
   -- ---- a row
-  product_positive : (c d : ℕ) → 0 < c → c < prime_value r.prime → 0 < d → d < prime_value r.prime → 0 < (c * d) % prime_value r.prime
+  pub product_positive : (c d : ℕ) → 0 < c → c < prime_value r.prime → 0 < d → d < prime_value r.prime → 0 < (c * d) % prime_value r.prime
   product_positive c d pc bc pd bd = at ((c * d) % prime_value r.prime) (λ e. elim (no_zero_divisors r.prime c d bc bd e) [ inl z ↦ absurd (omega arith) | inr z ↦ absurd (omega arith) ])
     where
       at : (m : ℕ) → ¬ (m ≡ 0) → 0 < m
@@ -61,13 +60,12 @@ module _ (r : Ring) where
 
   row_listed : (t : Term) (us : List Term) → length t.mono ≡ r.vars → 0 < t.coeff → t.coeff < prime_value r.prime → Listed r.prime r.vars us → Listed r.prime r.vars (row_terms r t us)
   row_listed t [] l positive below w = tt
-  row_listed t (u ∷ us) l positive below w =
-      (
-        length_tuple_sum t.mono u.mono (l ∙ sym w.0) ∙ l,
-        product_positive t.coeff u.coeff positive below w.1 w.2,
-        mod_below (t.coeff * u.coeff) (prime_value r.prime) (prime_positive r.prime),
-        row_listed t us l positive below w.3,
-      )
+  row_listed t (u ∷ us) l positive below w = (
+    length_tuple_sum t.mono u.mono (l ∙ sym w.0) ∙ l,
+    product_positive t.coeff u.coeff positive below w.1 w.2,
+    mod_below (t.coeff * u.coeff) (prime_value r.prime) (prime_positive r.prime),
+    row_listed t us l positive below w.3,
+  )
 
   times_below : (t u v : Term) → length t.mono ≡ r.vars → length u.mono ≡ r.vars → length v.mono ≡ r.vars → monomial_cmp r.order v.mono u.mono ≡ Less
       → monomial_cmp r.order (tuple_sum t.mono v.mono) (tuple_sum t.mono u.mono) ≡ Less
@@ -141,3 +139,8 @@ module _ (r : Ring) where
 -- ---- the bound
 pub halves_fit : (f left right g : List Term) → f ≡ left ++ right → products_fit f g ≡ (products_fit left g && products_fit right g)
 halves_fit f left right g e = ap (λ ts. products_fit ts g) e ∙ list_all-append (λ t. row_fits t g) left right
+
+-- ---- the factors in the other order
+pub product_turned : (r : Ring) (f g h : List Term) → meaning r h ≡ polynomial_product r.prime r.vars (meaning r g) (meaning r f) → meaning r h ≡ polynomial_product r.prime r.vars (meaning r f) (meaning r g)
+unfolding polynomial_product
+product_turned r f g h e = e ∙ (polynomials_laws r.prime r.vars).mul_comm (meaning r g) (meaning r f)

@@ -1,11 +1,30 @@
 // Polynomials.
-ghost use Rattle.std.specs.Prelude.{All, IfOk, [], ◌≡◌};
-ghost use Rattle.fm_algebra.specs.Polynomials.{polynomial_sum};
+ghost use Rattle.std.specs.Prelude.{All, IfOk, IsErrOf, OnOk, [], ◌<◌, ◌≡◌, ◌≤◌};
+ghost use Rattle.fm_gfp.specs.Primes.{prime_value};
+ghost use Rattle.fm_algebra.specs.Polynomials.{
+  frobenius_twist,
+  polynomial_multiple,
+  polynomial_power,
+  polynomial_product,
+  polynomial_sum,
+};
+ghost use Rattle.fm_poly.specs.Bounds.{
+  PowerFits,
+  PowerPasses,
+  ProductFits,
+  ProductPasses,
+  TwistFits,
+  TwistPasses,
+};
 ghost use Rattle.fm_poly.specs.Polys.{IsCanonical, IsTermOf, meaning};
 
 use crate::collecting::collect;
 use crate::merging::merge;
-use crate::{Ring, Term};
+use crate::multiplying::{power_of, times};
+use crate::scaling::multiple_of;
+use crate::twisting::twist_of;
+use crate::{PolyError, Ring, Term};
+use fm_gfp::Gf;
 use std::alloc::{AllocError, Global};
 use std::marker::Model;
 
@@ -79,6 +98,71 @@ impl Poly {
             ≡ polynomial_sum self.now.ring.prime self.now.ring.vars (meaning self.now.ring self.now.terms) (meaning self.now.ring b.now.terms)) }
     {
         let terms = merge(alloc, self.ring, &self.terms, &b.terms)?;
+        Ok(Poly {
+            ring: self.ring,
+            terms,
+        })
+    }
+
+    /// The multiple by a number c.
+    pub fn scale(&self, alloc: Global, c: Gf) -> Result<Poly, AllocError>
+        requires { c < prime_value self.now.ring.prime }
+        ensures ring { IfOk result (λ f. f.ring ≡ self.now.ring) }
+        ensures multiple { IfOk result (λ f. meaning self.now.ring f.terms
+            ≡ polynomial_multiple self.now.ring.prime self.now.ring.vars c (meaning self.now.ring self.now.terms)) }
+    {
+        let terms = multiple_of(alloc, self.ring, &self.terms, c)?;
+        Ok(Poly {
+            ring: self.ring,
+            terms,
+        })
+    }
+
+    pub fn mul(&self, alloc: Global, b: &Poly) -> Result<Poly, PolyError>
+        requires { self.now.ring ≡ b.now.ring }
+        ensures ring { IfOk result (λ f. f.ring ≡ self.now.ring) }
+        ensures product { IfOk result (λ f. meaning self.now.ring f.terms
+            ≡ polynomial_product self.now.ring.prime self.now.ring.vars (meaning self.now.ring self.now.terms) (meaning self.now.ring b.now.terms)) }
+        ensures fits { OnOk result (ProductFits self.now.ring.prime self.now.ring.vars
+            (meaning self.now.ring self.now.terms) (meaning self.now.ring b.now.terms)) }
+        ensures exponent { IsErrOf result PolyError.Exponent → ProductPasses self.now.ring.prime self.now.ring.vars
+            (meaning self.now.ring self.now.terms) (meaning self.now.ring b.now.terms) }
+    {
+        let terms = times(alloc, self.ring, &self.terms, &b.terms)?;
+        Ok(Poly {
+            ring: self.ring,
+            terms,
+        })
+    }
+
+    /// The Frobenius twist: each exponent is multiplied by p^e.
+    pub fn twist(&self, alloc: Global, e: u8) -> Result<Poly, PolyError>
+        ensures ring { IfOk result (λ f. f.ring ≡ self.now.ring) }
+        ensures twist { IfOk result (λ f. meaning self.now.ring f.terms
+            ≡ frobenius_twist self.now.ring.prime self.now.ring.vars e (meaning self.now.ring self.now.terms)) }
+        ensures fits { OnOk result (TwistFits self.now.ring.prime self.now.ring.vars e (meaning self.now.ring self.now.terms)) }
+        ensures exponent { IsErrOf result PolyError.Exponent
+            → TwistPasses self.now.ring.prime self.now.ring.vars e (meaning self.now.ring self.now.terms) }
+    {
+        let terms = twist_of(alloc, self.ring, &self.terms, e)?;
+        Ok(Poly {
+            ring: self.ring,
+            terms,
+        })
+    }
+
+    /// The power by k: the products f^0 * f, .., f^(k-1) * f, one after another.
+    pub fn power(&self, alloc: Global, k: u32) -> Result<Poly, PolyError>
+        requires some { 1 ≤ self.now.ring.vars }
+        requires few { self.now.ring.vars ≤ 8 }
+        ensures ring { IfOk result (λ f. f.ring ≡ self.now.ring) }
+        ensures power { IfOk result (λ f. meaning self.now.ring f.terms
+            ≡ polynomial_power self.now.ring.prime self.now.ring.vars k (meaning self.now.ring self.now.terms)) }
+        ensures fits { OnOk result (PowerFits self.now.ring.prime self.now.ring.vars k (meaning self.now.ring self.now.terms)) }
+        ensures exponent { IsErrOf result PolyError.Exponent
+            → PowerPasses self.now.ring.prime self.now.ring.vars k (meaning self.now.ring self.now.terms) }
+    {
+        let terms = power_of(alloc, self.ring, &self.terms, k)?;
         Ok(Poly {
             ring: self.ring,
             terms,
