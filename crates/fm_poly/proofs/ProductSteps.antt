@@ -12,10 +12,10 @@ use Rattle.fm_gfp.specs.Primes.{prime_value}
 use Rattle.fm_gfp.proofs.Residues.{prime_positive, no_zero_divisors}
 use Rattle.fm_mono.specs.Orders.{monomial_cmp}
 use Rattle.fm_mono.proofs.OrderLaws.{monomial_cmp_sum}
-use Rattle.fm_algebra.specs.Polynomials.{Polynomial, polynomial_zero, polynomial_sum, polynomial_product, polynomial_term, polynomial_of}
+use Rattle.fm_algebra.specs.Polynomials.{Polynomial, polynomial_zero, polynomial_sum, polynomial_product, polynomial_term, polynomial_of, AllFit}
 use Rattle.fm_algebra.proofs.Algebra.{add_mul, zero_mul}
 use Rattle.fm_algebra.proofs.Concrete.{polynomials_laws}
-use Rattle.fm_algebra.proofs.TermWords.{AllFit, shifted_terms, term_times, of_modulo}
+use Rattle.fm_algebra.proofs.TermWords.{shifted_terms, term_times, of_modulo}
 use Rattle.fm_poly.specs.declared.ring.Ring.{Ring}
 use Rattle.fm_poly.specs.declared.term.Term.{Term}
 use Rattle.fm_poly.specs.Polys.{pairs, meaning, IsCanonical, IsTermOf}
@@ -47,7 +47,7 @@ module _ (r : Ring) where
   pub back_of : (f left right : List Term) → f ≡ left ++ right → IsCanonical r f → IsCanonical r right
   back_of f left right e c = canonical_back r left right (subst (IsCanonical r) e c)
 
-  all_fit : (ts : List Term) → Listed r.prime r.vars ts → AllFit r.prime r.vars (pairs ts)
+  all_fit : (ts : List Term) → Listed r.prime r.vars ts → AllFit r.vars (pairs ts)
   all_fit [] w = tt
   all_fit (t ∷ ts) w = (w.0, all_fit ts w.3)
 

@@ -91,7 +91,7 @@ abbrev pub with_ideal : Problem → Bytes → List Bytes → Result Problem Faul
 with_ideal q n texts =
     if nat_lt (length q.ideals) IDEALS
     then (if is_some (place 0 n (ideal_names q)) then Err Repeated
-        else (if nat_le (length n) NAME_BYTES then (generators_in (rules_of q) texts >>= λ fs. Ok (plus_ideal q n fs)) else Err Limit))
+    else (if nat_le (length n) NAME_BYTES then (generators_in (rules_of q) texts >>= λ fs. Ok (plus_ideal q n fs)) else Err Limit))
     else Err Limit
 
 -- ---- queries

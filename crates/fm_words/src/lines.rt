@@ -52,7 +52,10 @@ fn after_line(number: u32, more: Option<&[u8]>) -> Lines<'_>
     ensures few { reach result.number (option_map (λ r. r.now) result.rest) < 2 ^ 32 }
 {
     match more {
-        Some(text) => Lines { number: number + 1, rest: Some(text) },
+        Some(text) => Lines {
+            number: number + 1,
+            rest: Some(text),
+        },
         None => Lines { number, rest: None },
     }
 }
@@ -62,7 +65,7 @@ pub fn next_line(lines: Lines<'_>) -> Option<(Line<'_>, Lines<'_>)>
     requires few { reach lines.number (option_map (λ r. r.now) lines.rest) < 2 ^ 32 }
     ensures lines { MatchOption result (ahead lines.entry.number (option_map (λ r. r.now) lines.entry.rest) ≡ [])
         (λ f. ahead lines.entry.number (option_map (λ r. r.now) lines.entry.rest)
-            ≡ record { number = f.0.number; text = f.0.text.now } ∷ ahead f.1.number (option_map (λ r. r.now) f.1.rest)) }
+        ≡ record { number = f.0.number; text = f.0.text.now } ∷ ahead f.1.number (option_map (λ r. r.now) f.1.rest)) }
     ensures few { IfSome result (λ f. reach f.1.number (option_map (λ r. r.now) f.1.rest) < 2 ^ 32) }
     ensures shorter { IfSome result (λ f. size_of (option_map (λ r. r.now) f.1.rest) < size_of (option_map (λ r. r.now) lines.entry.rest)) }
 {
@@ -75,7 +78,13 @@ pub fn next_line(lines: Lines<'_>) -> Option<(Line<'_>, Lines<'_>)>
         let line = without_return(part);
         let later = after_line(from.number, more);
         if !is_passed(line) {
-            return Some((Line { number: from.number, text: line }, later));
+            return Some((
+                Line {
+                    number: from.number,
+                    text: line,
+                },
+                later,
+            ));
         }
         from = later;
     }
