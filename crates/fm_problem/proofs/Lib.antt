@@ -1,0 +1,3 @@
+pub mod FactorCuts
+pub mod TermCuts
+pub mod TermSums

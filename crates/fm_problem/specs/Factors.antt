@@ -43,19 +43,27 @@ abbrev pub onto_term : Sign → ℕ → List SignedText → List SignedText
 onto_term s b [] = []
 onto_term s b (t ∷ ts) = record { sign = s; text = b ∷ t.text } ∷ ts
 
+-- the sign that a byte is
+abbrev pub sign_of_byte : ℕ → Option Sign
+sign_of_byte b = if nat_eq b 43 then Some Plus else (if nat_eq b 45 then Some Minus else None)
+
+abbrev pub signed_from : Sign → ℕ → Option Sign → List SignedText → (Sign → List SignedText) → List SignedText
+signed_from s b None same next = onto_term s b same
+signed_from s b (Some new) same next = record { sign = s; text = [] } ∷ next new
+
 -- the terms of a text after a sign: each `+` and each `-` ends a term and is the sign of the next
 abbrev pub signed : Sign → Bytes → List SignedText
 signed s [] = record { sign = s; text = [] } ∷ []
-signed s (b ∷ bs) =
-    if nat_eq b 43 then record { sign = s; text = [] } ∷ signed Plus bs
-    else (if nat_eq b 45 then record { sign = s; text = [] } ∷ signed Minus bs else onto_term s b (signed s bs))
+signed s (b ∷ bs) = signed_from s b (sign_of_byte b) (signed s bs) (λ new. signed new bs)
+
+abbrev pub after_sign : Option Sign → ℕ → Bytes → List SignedText
+after_sign None b bs = signed Plus (b ∷ bs)
+after_sign (Some s) b bs = signed s bs
 
 -- the terms of a text, before which one sign may stand
 abbrev pub terms_of : Bytes → List SignedText
 terms_of [] = signed Plus []
-terms_of (b ∷ bs) =
-    if is_mark Blank b then terms_of bs
-    else (if nat_eq b 43 then signed Plus bs else (if nat_eq b 45 then signed Minus bs else signed Plus (b ∷ bs)))
+terms_of (b ∷ bs) = if is_mark Blank b then terms_of bs else after_sign (sign_of_byte b) b bs
 
 -- factors joined by `*`
 abbrev pub is_term : Bytes → Bool

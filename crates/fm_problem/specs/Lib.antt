@@ -7,3 +7,4 @@ pub mod Statements
 pub mod Problems
 pub mod Certificates
 pub mod Readings
+pub mod Views

@@ -2,6 +2,7 @@
 use Rattle.std.specs.Prelude.{ℕ, ◌+◌, ◌-◌, ◌*◌, ◌%◌, ◌^◌, Bool, true, false, ◌&&◌, if◌then◌else◌, nat_eq, nat_le, nat_lt, List, [], ◌∷◌, ◌++◌, map, length, replicate, slice_index, slice_set, Option, Some, None, Result, Ok, Err}
 use Rattle.std.specs.List.{list_all}
 use Rattle.fm_gfp.specs.Primes.{prime_value}
+use Rattle.fm_gfp.specs.declared.prime.Prime.{Prime}
 use Rattle.fm_mono.specs.declared.exponent.TheConstants.{EXPONENT_BOUND}
 use Rattle.fm_poly.specs.Polys.{PolyValue}
 use Rattle.fm_poly.specs.declared.ring.Ring.{Ring}
@@ -26,30 +27,34 @@ pub record Rules : Type 0 where
 abbrev pub term_one : Rules → Term
 term_one r = record { mono = replicate (length r.names) 0; coeff = 1 }
 
--- times the power of a variable at this place; its name comes before its exponent
-abbrev pub times_power : Rules → Term → ℕ → Option ℕ → Result Term FaultKind
-times_power r t e None = Err UnknownName
-times_power r t e (Some k) =
-    if nat_le (slice_index t.mono k + e) r.bound then Ok (record { mono = slice_set t.mono k (slice_index t.mono k + e); coeff = t.coeff }) else Err Limit
+-- the exponents of a term times a power of the variable at this place: an unknown name comes before an exponent that is too great
+abbrev pub raised : ℕ → List ℕ → ℕ → Option ℕ → Result (List ℕ) FaultKind
+raised bound a e None = Err UnknownName
+raised bound a e (Some k) = if nat_le (slice_index a k + e) bound then Ok (slice_set a k (slice_index a k + e)) else Err Limit
 
 -- times a factor; numbers are below 2^64 and count modulo p
 abbrev pub times_factor : Rules → Term → Option Factor → Result Term FaultKind
 times_factor r t None = Err Syntax
 times_factor r t (Some (Number n)) =
     if nat_lt n (2 ^ 64) then Ok (record { mono = t.mono; coeff = (t.coeff * (n % prime_value r.ring.prime)) % prime_value r.ring.prime }) else Err Limit
-times_factor r t (Some (Power name e)) = times_power r t e (place 0 name r.names)
+times_factor r t (Some (Power name e)) = raised r.bound t.mono e (place 0 name r.names) >>= λ a. Ok (record { mono = a; coeff = t.coeff })
+
+-- times the factors that a text joins by `*`
+abbrev pub times_factors : Rules → Term → Bytes → Result Term FaultKind
+times_factors r t text = steps (λ u f. times_factor r u (factor_of f)) t (parts Star text)
 
 -- a term without its sign: the product of its factors
 abbrev pub unsigned_term : Rules → Bytes → Result Term FaultKind
-unsigned_term r text = steps (λ t f. times_factor r t (factor_of f)) (term_one r) (parts Star text)
+unsigned_term r text = times_factors r (term_one r) text
+
+-- a number modulo p with a sign
+abbrev pub signed_coefficient : Prime → Sign → ℕ → ℕ
+signed_coefficient p Plus c = c
+signed_coefficient p Minus c = (prime_value p - c) % prime_value p
 
 -- a term with its sign
-abbrev pub with_sign : Rules → Sign → Term → Term
-with_sign r Plus t = t
-with_sign r Minus t = record { mono = t.mono; coeff = (prime_value r.ring.prime - t.coeff) % prime_value r.ring.prime }
-
 abbrev pub signed_term : Rules → SignedText → Result Term FaultKind
-signed_term r t = unsigned_term r t.text >>= λ u. Ok (with_sign r t.sign u)
+signed_term r t = unsigned_term r t.text >>= λ u. Ok (record { mono = u.mono; coeff = signed_coefficient r.ring.prime t.sign u.coeff })
 
 -- one more written term
 abbrev pub plus_term : Rules → List Term → SignedText → Result (List Term) FaultKind

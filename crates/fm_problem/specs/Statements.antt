@@ -30,6 +30,14 @@ pub data Statement : Type 0 where
   -- the ideal and the polynomial
   MemberLine : Bytes → Bytes → Statement
 
+-- the words of queries that name more than a degree and an ideal
+abbrev pub query_keyword_of : Bytes → Option Keyword
+query_keyword_of w =
+    if same_bytes w (codes "class") then Some Class
+    else (if same_bytes w (codes "invert") then Some Invert
+    else (if same_bytes w (codes "map") then Some Map
+    else (if same_bytes w (codes "member") then Some Member else None)))
+
 abbrev pub keyword_of : Bytes → Option Keyword
 keyword_of w =
     if same_bytes w (codes "ring") then Some Ring
@@ -39,11 +47,7 @@ keyword_of w =
     else (if same_bytes w (codes "root") then Some (Module Root)
     else (if same_bytes w (codes "support") then Some (Module Support)
     else (if same_bytes w (codes "resolution") then Some (Module Resolution)
-    else (if same_bytes w (codes "ext") then Some (Module Ext)
-    else (if same_bytes w (codes "class") then Some Class
-    else (if same_bytes w (codes "invert") then Some Invert
-    else (if same_bytes w (codes "map") then Some Map
-    else (if same_bytes w (codes "member") then Some Member else None)))))))))))
+    else (if same_bytes w (codes "ext") then Some (Module Ext) else query_keyword_of w)))))))
 
 -- `ring P NAME ..`
 abbrev pub ring_line : List Bytes → Option Statement

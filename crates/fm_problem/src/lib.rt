@@ -1,17 +1,25 @@
 // Problem texts: the grammar, the first fault, and the reader.
 #![tactic(auto)]
 
+pub mod factors;
 pub mod fault_kind;
+pub mod forms;
 pub mod ideal;
 pub mod items;
 pub mod keyword;
 pub mod limits;
+pub mod line_error;
 pub mod name;
+pub mod places;
 pub mod poly_fault;
+pub mod polynomials;
 pub mod problem;
 pub mod problem_error;
 pub mod query;
+pub mod rules;
 pub mod sign;
+pub mod statements;
+pub mod terms;
 
 pub use fault_kind::FaultKind;
 pub use ideal::Ideal;
