@@ -1,10 +1,11 @@
 -- What a problem text says, and its first fault: line by line, form before all else on a line, then from left to right.
-use Rattle.std.specs.Prelude.{ℕ, ◌+◌, Bool, true, false, ◌&&◌, if◌then◌else◌, nat_eq, nat_le, nat_lt, List, [], ◌∷◌, ◌++◌, map, length, slice_get, Option, Some, None, is_some, Result, Ok, Err}
+use Rattle.std.specs.Prelude.{◌≡◌, ◌≤◌, ℕ, ◌+◌, Bool, true, false, ◌&&◌, if◌then◌else◌, nat_eq, nat_le, nat_lt, List, [], ◌∷◌, ◌++◌, map, length, slice_get, Option, Some, None, is_some, Result, Ok, Err}
 use Rattle.fm_gfp.specs.declared.prime.Prime.{Prime}
 use Rattle.fm_gfp.specs.declared.prime.Prime.TheVariants.{Two, Three, Five, Seven, Eleven, Thirteen}
 use Rattle.fm_mono.specs.declared.order.Order.{Order}
 use Rattle.fm_mono.specs.declared.order.Order.TheVariants.{Grevlex}
 use Rattle.fm_poly.specs.Polys.{PolyValue}
+use Rattle.fm_poly.specs.declared.term.Term.{Term}
 use Rattle.fm_words.specs.Parts.{Bytes}
 use Rattle.fm_words.specs.Lines.{NumberedLine, lines_of, end_of}
 use Rattle.fm_problem.specs.declared.fault_kind.FaultKind.{FaultKind}
@@ -20,6 +21,13 @@ use Rattle.fm_problem.specs.Faults.{Fault}
 use Rattle.fm_problem.specs.Steps.{◌>>=◌, steps, or_fault, place}
 use Rattle.fm_problem.specs.Polynomials.{Rules, polynomial_in}
 use Rattle.fm_problem.specs.Statements.{Statement, RingLine, OrderLine, IdealLine, ModuleLine, ClassLine, InvertLine, MapLine, MemberLine, statement_of}
+
+-- the variables have names, and the ideals are few
+pub record IsBounded (q : Problem) : Type 0 where
+  pub named : length q.vars ≡ q.ring.vars
+  pub some : 1 ≤ q.ring.vars
+  pub few : q.ring.vars ≤ VARIABLES
+  pub few_ideals : length q.ideals ≤ IDEALS
 
 -- ---- the ring
 
@@ -67,8 +75,13 @@ pub record Generators : Type 0 where
   pub written : ℕ
   pub kept : List PolyValue
 
+abbrev pub unless_empty : List PolyValue → PolyValue → List Term → List PolyValue
+unless_empty fs f [] = fs
+unless_empty fs f (t ∷ ts) = fs ++ f ∷ []
+
+-- one more polynomial, if it isn't zero
 abbrev pub unless_zero : List PolyValue → PolyValue → List PolyValue
-unless_zero fs f = elim f.terms [ [] ↦ fs | t ∷ ts ↦ fs ++ f ∷ [] ]
+unless_zero fs f = unless_empty fs f f.terms
 
 -- one more generator; one too many is a fault before its text is read
 abbrev pub plus_generator : Rules → Generators → Bytes → Result Generators FaultKind

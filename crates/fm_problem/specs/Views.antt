@@ -13,6 +13,8 @@ use Rattle.fm_problem.specs.declared.terms.TermText.{TermText}
 use Rattle.fm_problem.specs.declared.rules.Rules.{Rules}
 use Rattle.fm_problem.specs.declared.statements.StatementText.{StatementText}
 use Rattle.fm_problem.specs.declared.statements.StatementText as texts
+use Rattle.fm_problem.specs.declared.problem_error.ProblemError.{ProblemError}
+use Rattle.fm_problem.specs.declared.problem_error.ProblemError as errors
 use Rattle.fm_problem.specs.Factors as factors
 use Rattle.fm_problem.specs.Polynomials as polynomials
 use Rattle.fm_problem.specs.Statements as statements
@@ -53,3 +55,8 @@ statement_view (texts.TheVariants.Class degree name stage entries) =
 statement_view (texts.TheVariants.Invert degree name text) = statements.InvertLine (value degree.now) name.now text.now
 statement_view (texts.TheVariants.Map degree source target) = statements.MapLine (value degree.now) source.now target.now
 statement_view (texts.TheVariants.Member name text) = statements.MemberLine name.now text.now
+
+-- the error of a line, in its text
+abbrev pub error_at : ℕ → LineError → ProblemError
+error_at l (Fault k) = errors.TheVariants.Fault l k
+error_at l Memory = errors.TheVariants.Memory

@@ -1,5 +1,9 @@
 // Why a problem text was not read.
+ghost use Rattle.std.specs.Prelude.{◌≡◌};
+ghost use Rattle.fm_problem.specs.Views.{error_at};
+
 use crate::FaultKind;
+use crate::line_error::LineError;
 use std::alloc::{AllocError, AllocFailed};
 use thiserror::Error;
 
@@ -31,5 +35,17 @@ impl<T: Drop> From<AllocFailed<T>> for ProblemError {
 
     fn from(_error: AllocFailed<T>) -> ProblemError {
         ProblemError::Memory
+    }
+}
+
+impl ProblemError {
+    /// The error of a line as that of a text.
+    pub(crate) fn at(line: u32, error: LineError) -> ProblemError
+        ensures { result ≡ error_at line error }
+    {
+        match error {
+            LineError::Fault(kind) => ProblemError::Fault { line, kind },
+            LineError::Memory => ProblemError::Memory,
+        }
     }
 }
