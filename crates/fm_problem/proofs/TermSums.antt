@@ -66,7 +66,7 @@ module _ (r : Ring) where
   placed_listed t u us later Greater l positive below w v = (l, positive, below, w)
   placed_listed t u us later Equal l positive below w v =
       listed_append r.prime r.vars (like_sum r t u) us (canonical_kept r (record { mono = t.mono; coeff = (t.coeff + u.coeff) % prime_value r.prime }) l
-          (mod_below (t.coeff + u.coeff) (prime_value r.prime) (prime_positive r.prime))).listed w.3
+      (mod_below (t.coeff + u.coeff) (prime_value r.prime) (prime_positive r.prime))).listed w.3
   placed_listed t u us later Less l positive below w v = (w.0, w.1, w.2, v)
 
   inserted_listed : (t : Term) (us : List Term) → length t.mono ≡ r.vars → 0 < t.coeff → t.coeff < prime_value r.prime
@@ -101,7 +101,7 @@ module _ (r : Ring) where
       ((below, below_trans r.order t.mono u.mono us below w.0), w)
   placed_falls t u us later Equal e w h v =
       kept_falls (record { mono = t.mono; coeff = (t.coeff + u.coeff) % prime_value r.prime }) us ((t.coeff + u.coeff) % prime_value r.prime == 0)
-          (let P : List ℕ → Type 0 = λ a. Below r.order a us in subst P (sym (monomial_cmp_exact r.order t.mono u.mono e)) w.0) w.1
+      (let P : List ℕ → Type 0 = λ a. Below r.order a us in subst P (sym (monomial_cmp_exact r.order t.mono u.mono e)) w.0) w.1
   placed_falls t u us later Less e w h v = (h e, v)
 
   inserted_falls : (t : Term) (us : List Term) → Falls r.order us → Falls r.order (inserted r t us)

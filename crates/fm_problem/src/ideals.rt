@@ -41,11 +41,7 @@ fn keep(kept: &mut Items<Poly>, f: Poly) -> Result<(), AllocError>
     Ok(())
 }
 
-fn read_generators(
-    alloc: Global,
-    rules: &Rules<'_>,
-    text: &[u8],
-) -> Result<Items<Poly>, LineError>
+fn read_generators(alloc: Global, rules: &Rules<'_>, text: &[u8]) -> Result<Items<Poly>, LineError>
     requires { FitsRules rules.now }
     ensures { Gives (λ v. v) result (generators_in (rules_view rules.now) (parts Comma text.now)) }
 {

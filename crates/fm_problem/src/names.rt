@@ -6,11 +6,10 @@ ghost use Rattle.fm_problem.specs.Problems.{plus_name};
 ghost use Rattle.fm_problem.specs.Steps.{steps};
 ghost use Rattle.fm_problem.specs.Views.{Gives};
 
-use crate::FaultKind;
-use crate::Names;
 use crate::limits::{NAME_BYTES, VARIABLES};
 use crate::line_error::LineError;
 use crate::places::variable_place;
+use crate::{FaultKind, Names};
 use fm_words::next_word;
 use std::alloc::{AllocError, Global};
 

@@ -153,11 +153,7 @@ fn term(rules: &Rules<'_>, sign: Sign, text: &[u8]) -> Result<Term, FaultKind>
 }
 
 /// The terms of a polynomial, as they are written.
-pub fn written_terms(
-    alloc: Global,
-    rules: &Rules<'_>,
-    text: &[u8],
-) -> Result<Vec<Term>, LineError>
+pub fn written_terms(alloc: Global, rules: &Rules<'_>, text: &[u8]) -> Result<Vec<Term>, LineError>
     requires { FitsRules rules.now }
     ensures gives { Gives (λ v. v.items) result (written_terms_of (rules_view rules.now) text.now) }
     ensures fit { IfOk result (λ v. All (IsTermOf rules.now.ring) v.items) }

@@ -11,7 +11,9 @@ ghost use Rattle.fm_problem.specs.Views.{statement_view};
 use crate::forms::{are_polynomials, is_polynomial};
 use crate::keyword::{Keyword, Question, order_named, read_keyword};
 use fm_mono::Order;
-use fm_words::{Mark, is_blank, is_name, is_number, next_word, one_word, three_words, two_parts, two_words};
+use fm_words::{
+    Mark, is_blank, is_name, is_number, next_word, one_word, three_words, two_parts, two_words,
+};
 
 /// What a line says, by its words and texts, of which only the form has been tested.
 #[derive(Clone, Copy)]

@@ -32,7 +32,10 @@ pub fn first_term(from: TermText<'_>) -> (&[u8], Option<TermText<'_>>)
     let mut at = 0;
     'bytes: while at < text.len() {
         if let Some(sign) = sign_of(text[at]) {
-            let more = TermText { sign, text: &text[at + 1..] };
+            let more = TermText {
+                sign,
+                text: &text[at + 1..],
+            };
             return (&text[..at], Some(more));
         }
         at += 1;
@@ -47,12 +50,18 @@ pub fn all_terms(text: &[u8]) -> TermText<'_>
     let mut from = text;
     'blanks: loop {
         let Some((byte, rest)) = from.split_first() else {
-            return TermText { sign: Sign::Plus, text: from };
+            return TermText {
+                sign: Sign::Plus,
+                text: from,
+            };
         };
         if !Mark::Blank.is(*byte) {
             return match sign_of(*byte) {
                 Some(sign) => TermText { sign, text: rest },
-                None => TermText { sign: Sign::Plus, text: from },
+                None => TermText {
+                    sign: Sign::Plus,
+                    text: from,
+                },
             };
         }
         from = rest;
