@@ -6,3 +6,6 @@ pub mod PrimeList
 pub mod FirstFaults
 pub mod NamesRead
 pub mod NamedStatements
+pub mod SoundPolynomials
+pub mod SoundNames
+pub mod SoundProblems

@@ -8,3 +8,4 @@ pub mod Problems
 pub mod Certificates
 pub mod Readings
 pub mod Views
+pub mod Sound
