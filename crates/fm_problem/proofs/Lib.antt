@@ -9,3 +9,4 @@ pub mod NamedStatements
 pub mod SoundPolynomials
 pub mod SoundNames
 pub mod SoundProblems
+pub mod OneReading

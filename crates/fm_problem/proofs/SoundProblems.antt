@@ -24,7 +24,7 @@ use Rattle.fm_problem.specs.declared.query.Query as queries
 use Rattle.fm_problem.specs.Faults.{Fault}
 use Rattle.fm_problem.specs.Polynomials.{Rules, polynomial_in}
 use Rattle.fm_problem.specs.Statements.{Statement, RingLine, OrderLine, IdealLine, ModuleLine, ClassLine, InvertLine, MapLine, MemberLine, statement_of}
-use Rattle.fm_problem.specs.Problems.{IsBounded, prime_of, plus_name, bare, ring_of, order_in, with_order, rules_of, Generators, unless_empty, unless_zero, plus_generator, generators_in, ideal_names, plus_ideal, with_ideal, degree_in, ideal_in, stage_in, plus_entry, vector_in, module_query, asked, is_principal, is_built, query_in, plus_query, with_query, with_line, at_line, plus_line, after_second, after_ring, from_lines, problem_of}
+use Rattle.fm_problem.specs.Problems.{IsBounded, prime_of, plus_name, bare, ring_of, order_in, with_order, rules_of, Generators, unless_empty, unless_zero, plus_generator, generators_in, ideal_names, plus_ideal, with_ideal, degree_in, ideal_in, stage_in, plus_entry, vector_in, module_query, asked, is_principal, is_built, query_in, plus_query, with_query, with_line, at_line, plus_line, after_second, after_ring, from_lines, problem_of, query_of_statement, query_of}
 use Rattle.fm_problem.specs.Sound.{IsPolynomialOf, IsShortName, IsAbsent, AreApart, IsIdealOf, IsQueryOf, IsProblem}
 use Rattle.fm_problem.specs.Steps.{◌>>=◌, steps, or_fault, place}
 use Rattle.fm_problem.proofs.AsciiNames.{both}
@@ -311,3 +311,11 @@ from_lines_sound end (l ∷ ls) t h =
 pub problem_sound : (text : Bytes) (q : Problem) → problem_of text ≡ Ok q → IsProblem q
 unfolding problem_of
 problem_sound text q h = from_lines_sound (end_of text) (lines_of text) q h
+
+query_line_sound : (q : Problem) (s : Option Statement) (z : Query) → IsProblem q → query_of_statement q s ≡ Ok z → IsQueryOf q z
+query_line_sound q None z sound h = absurd (no_fault Syntax z h)
+query_line_sound q (Some s) z sound h = (query_sound q s z sound h).0
+
+pub query_of_sound : (q : Problem) (line : Bytes) (z : Query) → IsProblem q → query_of q line ≡ Ok z → IsQueryOf q z
+unfolding query_of
+query_of_sound q line z sound h = query_line_sound q (statement_of line) z sound (at_line_ok 1 (query_of_statement q (statement_of line)) z h)

@@ -9,6 +9,7 @@ pub mod ideal;
 pub mod ideals;
 pub mod items;
 pub mod keyword;
+pub mod laws;
 pub mod limits;
 pub mod line_error;
 pub mod name;

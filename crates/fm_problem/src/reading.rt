@@ -4,6 +4,7 @@ ghost use Rattle.fm_words.specs.Lines.{ahead, reach};
 ghost use Rattle.fm_words.specs.Words.{value};
 ghost use Rattle.fm_problem.specs.Problems.{IsBounded, after_ring, order_in as order_in_statement, plus_line, prime_of, problem_of, query_of, ring_of, with_line, with_order as problem_with_order};
 ghost use Rattle.fm_problem.specs.Readings.{Reads};
+ghost use Rattle.fm_problem.specs.Sound.{IsProblem};
 ghost use Rattle.fm_problem.specs.Statements.{statement_of};
 ghost use Rattle.fm_problem.specs.Steps.{steps};
 ghost use Rattle.fm_problem.specs.Views.{Gives};
@@ -136,10 +137,8 @@ fn read_after_ring(
     }
 }
 
-/// What a problem text says, or its first fault: lines are judged in order, and on a line its form before all else,
-/// and then what stands in it from left to right.
 #[tactic(auto, unfolding(crate::specs::Problems::problem_of))]
-pub fn read_problem(alloc: Global, text: &[u8]) -> Result<Problem, ProblemError>
+fn read_text(alloc: Global, text: &[u8]) -> Result<Problem, ProblemError>
     requires { length text.now + 1 < 2 ^ 32 }
     ensures { Reads (problem_of text.now) result }
 {
@@ -156,6 +155,19 @@ pub fn read_problem(alloc: Global, text: &[u8]) -> Result<Problem, ProblemError>
     match read_ring(alloc, first.text) {
         Ok(problem) => read_after_ring(alloc, problem, lines),
         Err(error) => Err(ProblemError::at(first.number, error)),
+    }
+}
+
+/// What a problem text says, or its first fault: lines are judged in order, and on a line its form before all else,
+/// and then what stands in it from left to right.
+pub fn read_problem(alloc: Global, text: &[u8]) -> Result<Problem, ProblemError>
+    requires { length text.now + 1 < 2 ^ 32 }
+    ensures reads { Reads (problem_of text.now) result }
+    ensures sound { IfOk result IsProblem }
+{
+    match read_text(alloc, text) {
+        Ok(problem) => Ok(problem),
+        Err(error) => Err(error),
     }
 }
 
