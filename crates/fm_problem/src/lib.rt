@@ -26,6 +26,8 @@ pub mod rules;
 pub mod sign;
 pub mod statements;
 pub mod terms;
+#[cfg(test)]
+mod tests;
 
 pub use certificates::read_poly;
 pub use fault_kind::FaultKind;
