@@ -1,0 +1,84 @@
+-- The end of a plan from the runs of its tasks.
+use Rattle.std.proofs.Common.{IfOk, OnOk, [], ◌∷◌, ◌≡◌, ◌≢◌, ℕ, List, Bool, Result, Ok, Err, refl, sym, ap, ◌∙◌}
+use Rattle.fm_poly.specs.Polys.{PolyValue}
+use Rattle.fm_vec.specs.Vectors.{VectorValue, head_of}
+use Rattle.std.specs.Prelude.{Option, is_some, not, true, false}
+use Rattle.fm_vec.specs.declared.vterm.VTerm.{VTerm}
+use Rattle.fm_vec.specs.Multiples.{twisted}
+use Rattle.fm_complete.specs.declared.stop.Stop.{Stop}
+use Rattle.fm_complete.specs.declared.stop.Stop.TheVariants.{Budget, Exponent, Memory}
+use Rattle.fm_complete.specs.declared.division.Division.{Division}
+use Rattle.fm_complete.specs.Divisions.{DivisionValue, division_value, AreMembers}
+use Rattle.fm_complete.specs.Runs.{Ended, Follows}
+use Rattle.fm_principal.specs.declared.task.Task.{Task}
+use Rattle.fm_principal.specs.declared.task.Task.TheVariants.{Lift, Stage}
+use Rattle.std.specs.declared.alloc.AllocError.{AllocError}
+use Rattle.fm_principal.specs.declared.class_end.ClassEnd.{ClassEnd}
+use Rattle.fm_principal.specs.Ends.{end_value}
+use Rattle.fm_principal.specs.Plans.{PlanEnd, stopped, answered, twisted_vector, is_zero_list, lift_run, stage_run, plan_end, after_lift, after_stage}
+
+-- a run that a call followed to a stop that is no want of memory
+followed : {X A : Type 0} → (view : X → A) → (s : Stop) → (left : ℕ) → (run : Ended A) → Follows view (Err s) left run → (s ≢ Memory) → run ≡ record { end = Err s; left = left }
+followed view Budget left run h m = h
+followed view Exponent left run h m = h
+followed view Memory left run h m = absurd (m refl)
+
+module _ (f : VectorValue) (e : ℕ) (z : VectorValue) (units : ℕ) where
+  after : Ended DivisionValue → PlanEnd
+  after x = after_lift f e z x.end x.left
+
+  pub in_lift : (s : Stop) → (left : ℕ) → Follows {X = Division} division_value (Err s) left (lift_run f units) → (s ≢ Memory) → stopped Lift s ≡ plan_end f e z units
+  unfolding after plan_end
+  in_lift s left h m = sym (ap after (followed division_value s left (lift_run f units) h m))
+
+  pub in_stage : (d : DivisionValue) → (s : Stop) → (left last : ℕ) → lift_run f units ≡ record { end = Ok d; left = left }
+      → Follows {X = Division} division_value (Err s) last (stage_run f e z left) → (s ≢ Memory) → stopped Stage s ≡ plan_end f e z units
+  unfolding after plan_end
+  in_stage d s left last lifted h m =
+      sym (ap after lifted ∙ ap (λ x. after_stage d.quotients x.end) (followed division_value s last (stage_run f e z left) h m))
+
+  pub in_answer : (d t : DivisionValue) → (b : Bool) → (left last : ℕ) → lift_run f units ≡ record { end = Ok d; left = left }
+      → stage_run f e z left ≡ record { end = Ok t; left = last } → b ≡ is_zero_list t.rest.terms
+      → answered d.quotients b ≡ plan_end f e z units
+  unfolding after plan_end
+  in_answer d t b left last lifted tested zero =
+      sym (ap after lifted ∙ ap (λ x. after_stage d.quotients x.end) tested ∙ ap (answered d.quotients) (sym zero))
+
+-- the same for vectors and units that are known by equations
+module _ (F Z f z : VectorValue) (e : ℕ) (units started : ℕ) (f_is : f ≡ F) (z_is : z ≡ Z) (starts : started ≡ units) where
+  plans_agree : plan_end f e z started ≡ plan_end F e Z units
+  plans_agree = λ i. plan_end (f_is i) e (z_is i) (starts i)
+
+  pub plan_in_lift : (r : Result ClassEnd AllocError) → (s : Stop) → (left : ℕ) → IfOk r (λ end. end_value end ≡ stopped Lift s) → OnOk r (s ≢ Memory)
+      → Follows {X = Division} division_value (Err s) left (lift_run f started) → IfOk r (λ end. end_value end ≡ plan_end F e Z units)
+  plan_in_lift (Ok end) s left is m h = is ∙ in_lift f e z started s left h m ∙ plans_agree
+  plan_in_lift (Err x) s left is m h = m
+
+  pub plan_in_stage : (r : Result ClassEnd AllocError) → (d : DivisionValue) → (s : Stop) → (left last : ℕ) → IfOk r (λ end. end_value end ≡ stopped Stage s) → OnOk r (s ≢ Memory)
+      → lift_run f started ≡ record { end = Ok d; left = left }
+      → Follows {X = Division} division_value (Err s) last (stage_run f e z left) → IfOk r (λ end. end_value end ≡ plan_end F e Z units)
+  plan_in_stage (Ok end) d s left last is m lifted h = is ∙ in_stage f e z started d s left last lifted h m ∙ plans_agree
+  plan_in_stage (Err x) d s left last is m lifted h = m
+
+  pub plan_answers : (d t : DivisionValue) → (b : Bool) → (left last : ℕ) → lift_run f started ≡ record { end = Ok d; left = left }
+      → stage_run f e z left ≡ record { end = Ok t; left = last } → b ≡ is_zero_list t.rest.terms
+      → answered d.quotients b ≡ plan_end F e Z units
+  plan_answers d t b left last lifted tested zero = in_answer f e z started d t b left last lifted tested zero ∙ plans_agree
+
+-- the twist of a vector that is not zero is a member
+pub twist_keeps : (q : ℕ) → (v w z : VectorValue) → w ≡ twisted_vector q v → v.ring ≡ z.ring → v.rows ≡ z.rows → (v.terms ≢ []) → AreMembers z.ring z.rows (w ∷ [])
+twist_keeps q v w z is ring rows some = (ap (λ x. x.ring) is ∙ ring, ap (λ x. x.rows) is ∙ rows, (λ none. stays v.terms some (sym (ap (λ x. x.terms) is) ∙ none)), tt)
+  where
+    stays : (ts : List VTerm) → (ts ≢ []) → (twisted q ts ≢ [])
+    stays [] some e = some refl
+    stays (t ∷ ts) some e = cc
+
+-- a vector is zero where it has no head
+pub headless : (o : Option VTerm) → (ts : List VTerm) → (b : Bool) → o ≡ head_of ts → is_some o ≡ not b → b ≡ is_zero_list ts
+headless o ts b e n = of ts b (ap is_some (sym e) ∙ n)
+  where
+    of : (ts : List VTerm) → (b : Bool) → is_some (head_of ts) ≡ not b → b ≡ is_zero_list ts
+    of [] true h = refl
+    of [] false h = cc
+    of (t ∷ ts) true h = cc
+    of (t ∷ ts) false h = refl

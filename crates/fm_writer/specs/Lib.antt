@@ -1,0 +1,5 @@
+pub mod Printed
+pub mod Lines
+pub mod Namings
+pub mod Heads
+pub mod Blocks
