@@ -21,3 +21,4 @@ pub mod ChainWords
 pub mod TwistedResolution
 pub mod SmallIdeals
 pub mod Principal
+pub mod PrincipalFacts
