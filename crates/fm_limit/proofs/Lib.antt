@@ -22,3 +22,4 @@ pub mod TwistedResolution
 pub mod SmallIdeals
 pub mod Principal
 pub mod PrincipalFacts
+pub mod SameClass
