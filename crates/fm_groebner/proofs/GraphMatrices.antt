@@ -92,6 +92,31 @@ module _ (R : Ring) (L : IsRing R) where
     column_length k l = ap length (get_or-listed (cols R A) k [] (λ j. listed (A.rows + cols R A) (λ i. cond (ltb i A.rows) (entry R A i j) (entry R (unit_matrix R (cols R A)) (i - A.rows) j))) l)
         ∙ length-listed (A.rows + cols R A) (λ i. cond (ltb i A.rows) (entry R A i k) (entry R (unit_matrix R (cols R A)) (i - A.rows) k))
 
+    own_entry : (i j : ℕ) → entry R A i j ≡ component R (get_or A.columns j []) i
+    unfolding component entry
+    own_entry i j = refl
+
+    listed_component : (i j : ℕ) → i < cols R A → component R (listed (cols R A) (λ i. cond (eqb i j) 𝟙 𝟘)) i ≡ cond (eqb i j) 𝟙 𝟘
+    unfolding component
+    listed_component i j b = get_or-listed (cols R A) i 𝟘 (λ i. cond (eqb i j) 𝟙 𝟘) b
+
+    column_entry : (k i : ℕ) → component R (get_or graph_matrix.columns k []) i ≡ entry R graph_generated i k
+    unfolding component entry
+    column_entry k i = refl
+
+    -- its columns are those of A, each above a unit vector
+    pub graph_columns_listed : ((j : ℕ) → j < cols R A → length (get_or A.columns j []) ≡ A.rows)
+        → graph_matrix.columns ≡ listed (cols R A) (λ j. get_or A.columns j [] ++ listed (cols R A) (λ i. cond (eqb i j) 𝟙 𝟘))
+    graph_columns_listed shaped = ext_get_or [] graph_matrix.columns (listed (cols R A) (λ j. get_or A.columns j [] ++ listed (cols R A) (λ i. cond (eqb i j) 𝟙 𝟘)))
+        (graph_cols ∙ sym (length-listed (cols R A) (λ j. get_or A.columns j [] ++ listed (cols R A) (λ i. cond (eqb i j) 𝟙 𝟘))))
+        (λ j h. let l = subst (λ x. j < x) graph_cols h in
+        same_blocks A.rows (cols R A) (get_or graph_matrix.columns j []) (get_or A.columns j [] ++ listed (cols R A) (λ i. cond (eqb i j) 𝟙 𝟘)) (column_length j l)
+        (length-append (get_or A.columns j []) (listed (cols R A) (λ i. cond (eqb i j) 𝟙 𝟘)) ∙ ap₂ (λ x y. x + y) (shaped j l) (length-listed (cols R A) (λ i. cond (eqb i j) 𝟙 𝟘)))
+        (λ i b. column_entry j i ∙ entry_upper i j b l ∙ own_entry i j ∙ sym (component_left (get_or A.columns j []) (listed (cols R A) (λ i. cond (eqb i j) 𝟙 𝟘)) i (subst (λ x. i < x) (sym (shaped j l)) b)))
+        (λ i b. column_entry j (A.rows + i) ∙ entry_lower i j b l
+        ∙ sym (component_right A.rows (get_or A.columns j []) (listed (cols R A) (λ i. cond (eqb i j) 𝟙 𝟘)) i (shaped j l) ∙ listed_component i j b))
+        ∙ sym (get_or-listed (cols R A) j [] (λ j. get_or A.columns j [] ++ listed (cols R A) (λ i. cond (eqb i j) 𝟙 𝟘)) l))
+
     -- its product with w is (A * w; w)
     pub graph_apply : (w : List Carrier) → length w ≡ cols R A → apply R graph_generated w ≡ apply R A w ++ w
     graph_apply w l = same_blocks A.rows (cols R A) (apply R graph_generated w) (apply R A w ++ w) (length-apply R graph_generated w)

@@ -1,13 +1,13 @@
 -- Kernels and images from a Gröbner basis of the graph of a matrix.
-use Rattle.std.proofs.Common.{◌≡◌, ◌↔◌, inl, inr, ℕ, ◌+◌, ◌<◌, ◌≤◌, List, ◌∷◌, ◌++◌, map, length, replicate, drop, Contains, refl, sym, ap, ap₂, ◌∙◌, subst, arith}
+use Rattle.std.proofs.Common.{◌≡◌, ◌↔◌, inl, inr, ℕ, ◌+◌, ◌<◌, ◌≤◌, List, [], ◌∷◌, ◌++◌, map, length, replicate, drop, get_or, Contains, refl, sym, ap, ap₂, ◌∙◌, subst, arith}
 use Rattle.std.proofs.lemmas.List.{length-append, length-map, length-replicate}
 use Rattle.fm_gfp.specs.declared.prime.Prime.{Prime}
 use Rattle.fm_mono.specs.declared.order.Order.{Order}
 use Rattle.fm_algebra.specs.Ring.{Ring, IsRing}
 use Rattle.fm_algebra.specs.Gf.{gf, gf_is_zero}
-use Rattle.fm_algebra.specs.Matrix.{component, apply}
-use Rattle.fm_algebra.specs.Polynomials.{Polynomial, polynomials, polynomial_zero, polynomial_negative}
-use Rattle.fm_algebra.specs.PolynomialMatrices.{PolynomialMatrix, InImage, InKernel, vector_product, matrix_above, matrix_unit}
+use Rattle.fm_algebra.specs.Matrix.{component, listed, apply}
+use Rattle.fm_algebra.specs.Polynomials.{Polynomial, polynomials, polynomial_one, polynomial_zero, polynomial_negative}
+use Rattle.fm_algebra.specs.PolynomialMatrices.{PolynomialMatrix, HasShape, InImage, InKernel, vector_product, matrix_above, matrix_unit}
 use Rattle.fm_algebra.proofs.Gf.{gf_laws}
 use Rattle.fm_algebra.proofs.Algebra.{mul_zero, neg_unique, neg_zero}
 use Rattle.fm_algebra.proofs.Tables.{length-apply}
@@ -16,7 +16,7 @@ use Rattle.fm_groebner.proofs.Vectors.{length_vector}
 use Rattle.fm_groebner.specs.Terms.{Term, IsFalling, vector_of, vectors_of}
 use Rattle.fm_groebner.specs.Bases.{generators}
 use Rattle.fm_groebner.specs.Logs.{ReducesBy, IsIrreducible}
-use Rattle.fm_groebner.specs.Graphs.{graph, IsGraphBasis, zero_vector, vector_negative, AreLowerBlocks}
+use Rattle.fm_groebner.specs.Graphs.{graph, unit_vector, IsGraphBasis, zero_vector, vector_negative, AreLowerBlocks}
 use Rattle.fm_groebner.proofs.Setting as setting
 use Rattle.fm_groebner.proofs.Setting.{Vect, In, in_map, lin_comb, Span, Divides, IsFinite}
 use Rattle.fm_groebner.proofs.Differences.{scale_only, sum_back, diff_back}
@@ -33,7 +33,7 @@ use Rattle.fm_groebner.proofs.Blocks as Blocks
 use Rattle.fm_groebner.proofs.Blocks.{component_sum, upper_dec, lower_level, upper_zero, below_of_upper, upper_same, upper_of_rest}
 use Rattle.fm_groebner.proofs.Membership.{reduces_divided, divides_listed}
 use Rattle.fm_groebner.proofs.Twists.{component_map}
-use Rattle.fm_groebner.proofs.GraphMatrices.{append_injective, graph_cols, zeros, component_left, component_right, component_zeros, same_components, graph_apply, lowered_apply}
+use Rattle.fm_groebner.proofs.GraphMatrices.{graph_columns_listed, append_injective, graph_cols, zeros, component_left, component_right, component_zeros, same_components, graph_apply, lowered_apply}
 
 module _ (p : Prime) (n : ℕ) (o : Order) where
   abbrev P : Ring
@@ -273,3 +273,9 @@ module _ (p : Prime) (n : ℕ) (o : Order) where
         λ i. (drop m (vector_of p n (m + c) r), rest_of_solution irreducible i.0 i.1 i.2),
         λ w. let s = solution_of_rest w.0 w.1 in (vector_negative p n w.0, length-map w.0 (polynomial_negative p n) ∙ s.0, s.1),
       )
+
+-- the columns of the graph
+module _ (p : Prime) (n : ℕ) (A : PolynomialMatrix p n) where
+  pub graph_columns_are : HasShape p n A.rows (length A.columns) A → (graph p n A).columns ≡ listed (length A.columns) (λ j. get_or A.columns j [] ++ unit_vector p n (length A.columns) j)
+  unfolding HasShape matrix_above matrix_unit polynomial_one polynomial_zero
+  graph_columns_are shape = graph_columns_listed (polynomials p n) (polynomials_laws p n) A shape.2

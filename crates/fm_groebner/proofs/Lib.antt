@@ -25,3 +25,5 @@ pub mod NormalForms
 pub mod TermWords
 pub mod Reductions
 pub mod Consequences
+pub mod Determined
+pub mod Examples

@@ -1,5 +1,5 @@
 -- Elements of lists by their numbers, counted from 1, and membership.
-use Rattle.std.proofs.Common.{◌≡◌, ◌⊎◌, inl, inr, ℕ, zero, suc, ◌<◌, ◌≤◌, List, [], ◌∷◌, ◌++◌, map, length, Contains, refl, ap, subst, arith}
+use Rattle.std.proofs.Common.{◌≡◌, ◌⊎◌, inl, inr, ℕ, zero, suc, ◌<◌, ◌≤◌, List, [], ◌∷◌, ◌++◌, map, length, get_or, Contains, refl, ap, subst, arith}
 use Rattle.fm_groebner.specs.Logs.{IsNumber, first, next}
 use Rattle.fm_groebner.proofs.Setting.{In, here, there}
 
@@ -72,3 +72,13 @@ in_of_contains (y ∷ xs) x c = elim (contains_cases y xs x c) [
 pub contains_of_in : {A : Type 0} {xs : List A} {x : A} → In xs x → Contains xs x
 contains_of_in (here {x = x} {xs = xs}) = contains_here x xs
 contains_of_in (there {x = y} {y = x} {xs = xs} i) = contains_there y xs x (contains_of_in i)
+
+-- ---- numbers and places, for programs that hold a list by its places from 0 on
+pub number_at : {A : Type 0} (xs : List A) (i : ℕ) (d : A) → i < length xs → IsNumber xs (suc i) (get_or xs i d)
+number_at [] i d h = absurd (omega arith)
+number_at (x ∷ xs) zero d h = first
+number_at (x ∷ xs) (suc i) d h = next (number_at xs i d (omega arith))
+
+pub number_place : {A : Type 0} {xs : List A} {k : ℕ} {x : A} (d : A) → IsNumber xs k x → (i : ℕ) × (k ≡ suc i) × (i < length xs) × (get_or xs i d ≡ x)
+number_place d first = (0, refl, omega arith, refl)
+number_place d (next i) = let r = number_place d i in (suc r.0, ap suc r.1, omega (arith, r.2), r.3)

@@ -121,7 +121,7 @@ module _ (p : Prime) (n m : ℕ) (o : Order) where
         let v = difference_list (s ∷ vs) (t ∷ ts) c.0 a w in
         let meets : ◌≡◌ {A = ℕ × Monomial n} (m - t.component, a · at) (m - s.component, of) = same_place (ap (λ x. m - x) d.0) (times_comm a at ∙ times_difference at of d.1) in
         let r = rest v.0 v.1 (below_head a c.0 c.1 w v.0 v.2 meets) in
-        (k ∷ r.0, r.1, one_more c.0 i d c.1 v.1 (vector_back v.0 (s ∷ vs) (t ∷ ts) c.0 a w v.2) r.2, r.3)
+        (k ∷ r.0, r.1, one_more {by = r.0} {v = v.0} {r = r.1} c.0 i d c.1 v.1 (vector_back v.0 (s ∷ vs) (t ∷ ts) c.0 a w v.2) r.2, r.3)
       where
         below_head : (a : Monomial n) (c : ℕ) → (c * t.coefficient) % prime_value p ≡ s.coefficient → (w : IsFalling p n m o (t ∷ ts)) (v : List Term)
             → ((b : ℕ × Monomial n) → list_value p n m o v b ≡ (gf p).add ((gf p).mul ((gf p).neg (number p n m o c)) (shift X a (list_value p n m o (t ∷ ts)) b)) (list_value p n m o (s ∷ vs) b))

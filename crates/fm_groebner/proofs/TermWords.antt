@@ -1,5 +1,5 @@
 -- What joins and multiples of lists of terms mean, and the blocks of their vectors.
-use Rattle.std.proofs.Common.{◌≡◌, ℕ, zero, suc, ◌*◌, ◌%◌, ◌<◌, Bool, true, false, cond, eqb, List, [], ◌∷◌, ◌++◌, map, length, replicate, replicate, refl, sym, ap, ap₂, ◌∙◌, arith, mod-eq_of_lt, mod-lt}
+use Rattle.std.proofs.Common.{◌≡◌, ℕ, zero, suc, ◌*◌, ◌%◌, ◌<◌, ◌≤◌, Bool, true, false, cond, eqb, List, [], ◌∷◌, ◌++◌, map, length, replicate, replicate, refl, sym, ap, ap₂, ◌∙◌, arith, mod-eq_of_lt, mod-lt}
 use native.Mathlib.Decide.{dec_lt}
 use Rattle.fm_tuple.proofs.Tuples.{zeros_tuple_sum}
 use Rattle.fm_groebner.proofs.Vectors.{length_vector, component_of_vector}
@@ -9,12 +9,14 @@ use Rattle.fm_gfp.specs.declared.prime.Prime.{Prime}
 use Rattle.fm_tuple.specs.Tuple.{tuple_sum}
 use Rattle.fm_algebra.specs.Gf.{prime_positive}
 use Rattle.fm_algebra.specs.Matrix.{component}
-use Rattle.fm_algebra.specs.Polynomials.{polynomials, polynomial_zero, polynomial_of, polynomial_sum, polynomial_product, polynomial_term, AllFit}
+use Rattle.fm_algebra.specs.Polynomials.{Polynomial, polynomials, polynomial_zero, polynomial_of, polynomial_sum, polynomial_product, polynomial_term, AllFit}
 use Rattle.fm_algebra.proofs.Algebra.{mul_zero}
 use Rattle.fm_algebra.proofs.Concrete.{polynomials_laws}
 use Rattle.fm_algebra.proofs.TermWords.{of_append, of_modulo, term_times, shifted_terms}
 use Rattle.std.proofs.Math.ListN.{get_or-eq_default}
-use Rattle.fm_groebner.specs.Terms.{Term, HaveExponents, terms_in, vector_of, multiple_terms, scaled_terms}
+use Rattle.fm_groebner.specs.Terms.{Term, IsFalling, HaveExponents, terms_in, vector_of, multiple_terms, scaled_terms}
+use Rattle.fm_mono.specs.declared.order.Order.{Order}
+use Rattle.fm_groebner.proofs.GraphMatrices.{same_components}
 use Rattle.fm_groebner.specs.Bases.{vector_component}
 
 module _ (p : Prime) (n m : ℕ) where
@@ -92,3 +94,12 @@ module _ (p : Prime) (n m : ℕ) where
   pub component_scaled : (c : ℕ) (ts : List Term) → HaveExponents n ts → (i : ℕ)
       → vector_component p n (vector_of p n m (scaled_terms p c ts)) i ≡ polynomial_product p n (polynomial_term p n c (replicate n 0)) (vector_component p n (vector_of p n m ts) i)
   component_scaled c ts h i = ap (λ x. vector_component p n (vector_of p n m x) i) (scaled_is_multiple c ts h) ∙ component_multiple c (replicate n 0) ts (length-replicate n 0) h i
+
+  -- a vector is told by its components
+  pub same_vectors : (u v : List (Polynomial p n)) → length u ≡ m → length v ≡ m → ((i : ℕ) → 0 < i → i ≤ m → vector_component p n u i ≡ vector_component p n v i) → u ≡ v
+  same_vectors u v k l e = same_components (polynomials p n) (polynomials_laws p n) m u v k l (λ i h. e (suc i) (omega arith) h)
+
+  -- the terms of a falling list have n exponents
+  pub falling_exponents : (o : Order) (ts : List Term) → IsFalling p n m o ts → HaveExponents n ts
+  falling_exponents o [] f = tt
+  falling_exponents o (t ∷ ts) f = (f.0.2, falling_exponents o ts f.2)

@@ -32,7 +32,8 @@ module _ (p : Prime) (n : ℕ) where
     pub is_head : IsHead o member i exponents
     pub divides : TupleDivides exponents a
 
-  -- the members are a Gröbner basis of the submodule that the generators span: they lie in it, and the head of each of its nonzero vectors is divisible by the head of a member
+  -- the members are a Gröbner basis of the submodule that the generators span: they lie in it,
+  -- and the head of each of its nonzero vectors is divisible by the head of a member
   pub record IsGroebnerBasis (m : ℕ) (o : Order) (members gens : List (List (Polynomial p n))) : Type 0 where
     pub inside : (g : List (Polynomial p n)) → Contains members g → InImage p n (generators m gens) g
     pub heads : (v : List (Polynomial p n)) (i : ℕ) (a : List ℕ) → InImage p n (generators m gens) v → IsHead o v i a → HeadDivides o members i a

@@ -50,7 +50,8 @@ module _ (p : Prime) where
     kept : {s : Term} {r : List Term} (c : ℕ) → (c * s.coefficient) % prime_value p ≡ 1 → IsKept members true (s ∷ r) (members ++ scaled_terms p c (s ∷ r) ∷ [])
 
 module _ (p : Prime) (n m : ℕ) (o : Order) where
-  -- Reduction of a head: each number in turn is that of a member whose head divides the head of the current vector, from which the multiple of the member is taken away that cancels its head
+  -- Reduction of heads: each number in turn is that of a member whose head divides the head of the current vector;
+  -- the multiple of the member that cancels this head is taken away
   pub data ReducesBy (members : List (List Term)) : List ℕ → List Term → List Term → Type 0 where
     no_more : {v : List Term} → ReducesBy members [] v v
     one_more : {k : ℕ} {by : List ℕ} {s t : Term} {vs ts v r : List Term} (c : ℕ)
@@ -58,7 +59,8 @@ module _ (p : Prime) (n m : ℕ) (o : Order) where
         → vector_of p n m (v ++ multiple_terms p c (tuple_difference s.exponents t.exponents) (t ∷ ts)) ≡ vector_of p n m (s ∷ vs)
         → ReducesBy members by v r → ReducesBy members (k ∷ by) (s ∷ vs) r
 
-  -- v is the S-vector of two monic vectors with heads t and u in one component: the difference of their multiples whose heads are the least common multiple of t and u
+  -- v is the S-vector of two monic vectors with heads t and u in one component: the difference of their multiples
+  -- whose heads are the least common multiple of t and u
   pub record IsSVector (t u : Term) (ts us v : List Term) : Type 0 where
     pub one_component : t.component ≡ u.component
     pub falls : IsFalling p n m o v

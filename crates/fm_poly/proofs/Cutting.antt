@@ -48,7 +48,7 @@ pub within_append : (k : ℕ) (xs ys : Bytes) → Within k xs → Within k ys �
 within_append k [] ys v w = w
 within_append k (x ∷ xs) ys v w = (v.0, within_append k xs ys v.1 w)
 
-differs : (k b c : ℕ) → k ≤ level c → level b < k → nat_eq b c ≡ false
+pub differs : (k b c : ℕ) → k ≤ level c → level b < k → nat_eq b c ≡ false
 differs k b c h w = elim (cases_eq b c) [
   | inl e ↦ absurd (apart (level b) (level c) k (ap level e) h w)
   | inr n ↦ ne_eqb b c n

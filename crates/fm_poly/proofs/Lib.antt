@@ -14,3 +14,4 @@ pub mod TwistSteps
 pub mod KeptTerms
 pub mod PieceSteps
 pub mod SpellingSteps
+pub mod LargeProducts

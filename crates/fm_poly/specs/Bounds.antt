@@ -7,6 +7,16 @@ use Rattle.fm_mono.specs.Bounded.{is_bounded}
 use Rattle.fm_algebra.specs.Polynomials.{Polynomial, coefficient, polynomial_power}
 
 module _ (p : Prime) (n : ℕ) where
+  -- each exponent of f is within the bound
+  pub record IsWithinBound (f : Polynomial p n) : Type 0 where
+    pub within : (a : List ℕ) → ¬ (coefficient p n f a ≡ 0) → is_bounded a ≡ true
+
+  -- an exponent of f is above the bound
+  pub record IsBeyondBound (f : Polynomial p n) : Type 0 where
+    pub a : List ℕ
+    pub a_of_f : ¬ (coefficient p n f a ≡ 0)
+    pub passes : is_bounded a ≡ false
+
   -- each monomial of f times each monomial of g is within the bound
   pub record ProductFits (f g : Polynomial p n) : Type 0 where
     pub within : (a b : List ℕ) → ¬ (coefficient p n f a ≡ 0) → ¬ (coefficient p n g b ≡ 0) → is_bounded (tuple_sum a b) ≡ true

@@ -16,6 +16,16 @@ ghost use Rattle.fm_algebra.specs.Polynomials.{
   polynomial_sum,
   polynomial_zero,
 };
+ghost use Rattle.fm_poly.specs.Bounds.{
+  IsBeyondBound,
+  IsWithinBound,
+  PowerFits,
+  PowerPasses,
+  ProductFits,
+  ProductPasses,
+  TwistFits,
+  TwistPasses,
+};
 ghost use Rattle.fm_poly.specs.Polys.{IsCanonical, meaning};
 ghost use Rattle.fm_poly.specs.Steps.{scaled_terms, twist_terms};
 ghost use Rattle.fm_poly.specs.declared.ring.Ring.{Ring};
@@ -94,4 +104,16 @@ pub fn terms_of_twists()
 pub fn terms_of_multiples()
     ensures { (r : Ring) (c : ℕ) (ts us : List Term) → IsCanonical r ts → IsCanonical r us → 0 < c → c < prime_value r.prime
         → meaning r us ≡ polynomial_multiple r.prime r.vars c (meaning r ts) → us ≡ scaled_terms r c ts }
+{}
+
+/// Products, twists and powers fit the bound on exponents exactly where their results do: no result within the bound
+/// is refused. Terms that cancel never matter, since the largest exponent of a variable in a product is the sum of
+/// those in the factors.
+pub fn the_bound_is_that_of_the_results()
+    ensures product_fits { (p : Prime) (n : ℕ) (f g : Polynomial p n) → ProductFits p n f g → IsWithinBound p n (polynomial_product p n f g) }
+    ensures product_passes { (p : Prime) (n : ℕ) (f g : Polynomial p n) → ProductPasses p n f g → IsBeyondBound p n (polynomial_product p n f g) }
+    ensures twist_fits { (p : Prime) (n e : ℕ) (f : Polynomial p n) → TwistFits p n e f → IsWithinBound p n (frobenius_twist p n e f) }
+    ensures twist_passes { (p : Prime) (n e : ℕ) (f : Polynomial p n) → TwistPasses p n e f → IsBeyondBound p n (frobenius_twist p n e f) }
+    ensures power_fits { (p : Prime) (n k : ℕ) (f : Polynomial p n) → PowerFits p n k f → IsWithinBound p n (polynomial_power p n k f) }
+    ensures power_passes { (p : Prime) (n k : ℕ) (f : Polynomial p n) → PowerPasses p n k f → IsBeyondBound p n (polynomial_power p n k f) }
 {}

@@ -70,6 +70,14 @@ impl Poly {
         Ok(Poly { ring, terms })
     }
 
+    /// The polynomial with these falling terms, which it takes over.
+    pub fn from_canonical(ring: Ring, terms: Vec<Term>) -> Poly
+        requires { IsCanonical ring terms.items }
+        ensures { result ≡ record { ring = ring; terms = terms.items } }
+    {
+        Poly { ring, terms }
+    }
+
     pub fn ring(&self) -> Ring
         ensures { result ≡ self.now.ring }
     {
@@ -97,8 +105,8 @@ impl Poly {
     pub fn add(&self, alloc: Global, b: &Poly) -> Result<Poly, AllocError>
         requires { self.now.ring ≡ b.now.ring }
         ensures ring { IfOk result (λ f. f.ring ≡ self.now.ring) }
-        ensures sum { IfOk result (λ f. meaning self.now.ring f.terms
-            ≡ polynomial_sum self.now.ring.prime self.now.ring.vars (meaning self.now.ring self.now.terms) (meaning self.now.ring b.now.terms)) }
+        ensures sum { let r = self.now.ring in IfOk result (λ f.
+            meaning r f.terms ≡ polynomial_sum r.prime r.vars (meaning r self.now.terms) (meaning r b.now.terms)) }
     {
         let terms = merge(alloc, self.ring, &self.terms, &b.terms)?;
         Ok(Poly {
@@ -111,8 +119,8 @@ impl Poly {
     pub fn scale(&self, alloc: Global, c: Gf) -> Result<Poly, AllocError>
         requires { c < prime_value self.now.ring.prime }
         ensures ring { IfOk result (λ f. f.ring ≡ self.now.ring) }
-        ensures multiple { IfOk result (λ f. meaning self.now.ring f.terms
-            ≡ polynomial_multiple self.now.ring.prime self.now.ring.vars c (meaning self.now.ring self.now.terms)) }
+        ensures multiple { let r = self.now.ring in IfOk result (λ f.
+            meaning r f.terms ≡ polynomial_multiple r.prime r.vars c (meaning r self.now.terms)) }
     {
         let terms = multiple_of(alloc, self.ring, &self.terms, c)?;
         Ok(Poly {
@@ -124,12 +132,12 @@ impl Poly {
     pub fn mul(&self, alloc: Global, b: &Poly) -> Result<Poly, PolyError>
         requires { self.now.ring ≡ b.now.ring }
         ensures ring { IfOk result (λ f. f.ring ≡ self.now.ring) }
-        ensures product { IfOk result (λ f. meaning self.now.ring f.terms
-            ≡ polynomial_product self.now.ring.prime self.now.ring.vars (meaning self.now.ring self.now.terms) (meaning self.now.ring b.now.terms)) }
-        ensures fits { OnOk result (ProductFits self.now.ring.prime self.now.ring.vars
-            (meaning self.now.ring self.now.terms) (meaning self.now.ring b.now.terms)) }
-        ensures exponent { IsErrOf result PolyError.Exponent → ProductPasses self.now.ring.prime self.now.ring.vars
-            (meaning self.now.ring self.now.terms) (meaning self.now.ring b.now.terms) }
+        ensures product { let r = self.now.ring in IfOk result (λ f.
+            meaning r f.terms ≡ polynomial_product r.prime r.vars (meaning r self.now.terms) (meaning r b.now.terms)) }
+        ensures fits { let r = self.now.ring in
+            OnOk result (ProductFits r.prime r.vars (meaning r self.now.terms) (meaning r b.now.terms)) }
+        ensures exponent { let r = self.now.ring in IsErrOf result PolyError.Exponent
+            → ProductPasses r.prime r.vars (meaning r self.now.terms) (meaning r b.now.terms) }
     {
         let terms = times(alloc, self.ring, &self.terms, &b.terms)?;
         Ok(Poly {
@@ -141,11 +149,11 @@ impl Poly {
     /// The Frobenius twist: each exponent is multiplied by p^e.
     pub fn twist(&self, alloc: Global, e: u8) -> Result<Poly, PolyError>
         ensures ring { IfOk result (λ f. f.ring ≡ self.now.ring) }
-        ensures twist { IfOk result (λ f. meaning self.now.ring f.terms
-            ≡ frobenius_twist self.now.ring.prime self.now.ring.vars e (meaning self.now.ring self.now.terms)) }
-        ensures fits { OnOk result (TwistFits self.now.ring.prime self.now.ring.vars e (meaning self.now.ring self.now.terms)) }
-        ensures exponent { IsErrOf result PolyError.Exponent
-            → TwistPasses self.now.ring.prime self.now.ring.vars e (meaning self.now.ring self.now.terms) }
+        ensures twist { let r = self.now.ring in IfOk result (λ f.
+            meaning r f.terms ≡ frobenius_twist r.prime r.vars e (meaning r self.now.terms)) }
+        ensures fits { let r = self.now.ring in OnOk result (TwistFits r.prime r.vars e (meaning r self.now.terms)) }
+        ensures exponent { let r = self.now.ring in IsErrOf result PolyError.Exponent
+            → TwistPasses r.prime r.vars e (meaning r self.now.terms) }
     {
         let terms = twist_of(alloc, self.ring, &self.terms, e)?;
         Ok(Poly {
@@ -159,11 +167,11 @@ impl Poly {
         requires some { 1 ≤ self.now.ring.vars }
         requires few { self.now.ring.vars ≤ 8 }
         ensures ring { IfOk result (λ f. f.ring ≡ self.now.ring) }
-        ensures power { IfOk result (λ f. meaning self.now.ring f.terms
-            ≡ polynomial_power self.now.ring.prime self.now.ring.vars k (meaning self.now.ring self.now.terms)) }
-        ensures fits { OnOk result (PowerFits self.now.ring.prime self.now.ring.vars k (meaning self.now.ring self.now.terms)) }
-        ensures exponent { IsErrOf result PolyError.Exponent
-            → PowerPasses self.now.ring.prime self.now.ring.vars k (meaning self.now.ring self.now.terms) }
+        ensures power { let r = self.now.ring in IfOk result (λ f.
+            meaning r f.terms ≡ polynomial_power r.prime r.vars k (meaning r self.now.terms)) }
+        ensures fits { let r = self.now.ring in OnOk result (PowerFits r.prime r.vars k (meaning r self.now.terms)) }
+        ensures exponent { let r = self.now.ring in IsErrOf result PolyError.Exponent
+            → PowerPasses r.prime r.vars k (meaning r self.now.terms) }
     {
         let terms = power_of(alloc, self.ring, &self.terms, k)?;
         Ok(Poly {

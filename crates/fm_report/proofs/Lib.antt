@@ -1,1 +1,5 @@
 mod Rows
+pub mod Lines
+pub mod Steps
+pub mod Written
+pub mod Holding

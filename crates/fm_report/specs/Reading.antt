@@ -1,5 +1,5 @@
 -- What the bytes of a report state: its lines are read one by one, each by what stands before it.
-use Rattle.std.specs.Prelude.{ℕ, ◌+◌, ◌-◌, List, [], ◌∷◌, ◌++◌, map, length, Option, Some, None, option_map, is_none, Bool, if◌then◌else◌, ◌&&◌, nat_eq, nat_lt, codes, slice_get}
+use Rattle.std.specs.Prelude.{ℕ, ◌+◌, ◌-◌, List, [], ◌∷◌, ◌++◌, map, length, Option, Some, None, option_map, is_none, Bool, if◌then◌else◌, ◌&&◌, nat_eq, nat_lt, codes}
 use Rattle.fm_gfp.specs.declared.prime.Prime.{Prime}
 use Rattle.fm_gfp.specs.declared.prime.Prime.TheVariants.{Two, Three, Five, Seven, Eleven, Thirteen}
 use Rattle.fm_poly.specs.Texts.{Bytes, Terms, same_bytes, are_names, pieces, ◌>>=◌, where_so, all_of, number_of, poly_of, vector_of}
@@ -28,9 +28,14 @@ abbrev pub ideal_named : Bytes → List (Bytes × List Terms) → Option (List T
 ideal_named name [] = None
 ideal_named name (i ∷ rest) = if same_bytes i.0 name then Some i.1 else ideal_named name rest
 
--- the earlier part with this number; parts count from 1
+-- the part with this number; parts count from 1
+abbrev pub part_numbered : List Part → ℕ → Option Part
+part_numbered [] k = None
+part_numbered (a ∷ rest) k = if nat_eq k 1 then Some a else part_numbered rest (k - 1)
+
+-- the earlier part of the number that the word is
 abbrev pub part_at : State → Bytes → Option Part
-part_at s w = number_of w >>= λ k. where_so (nat_lt 0 k) (slice_get s.parts (k - 1))
+part_at s w = number_of w >>= part_numbered s.parts
 
 -- ---- `ring P NAME ..`
 abbrev pub prime_of : ℕ → Option Prime

@@ -39,7 +39,7 @@ pub data Answer : Type 0 where
   no : Answer
 
 -- an answered query: its question over GF(prime)[names], its answer, and the resolution and the Frobenius lift printed under it
-pub record Verdict : Type 0 where
+pub record AnsweredQuery : Type 0 where
   pub prime : Prime
   pub names : List Bytes
   pub question : Question
@@ -49,7 +49,7 @@ pub record Verdict : Type 0 where
 
 -- what a line can state
 pub data Statement : Type 0 where
-  verdict : Verdict → Statement
+  verdict : AnsweredQuery → Statement
 
 module _ (p : Prime) (n : ℕ) where
   -- the matrix whose entries are the polynomials that the printed terms mean

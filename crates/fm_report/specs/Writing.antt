@@ -110,7 +110,7 @@ query_lines names k (q ∷ qs) =
 abbrev pub report_lines : Report → List (List Bytes)
 report_lines r =
     (codes "report" ∷ codes "0" ∷ []) ∷ (codes "ring" ∷ decimal (prime_value r.prime) ∷ r.names) ∷ (codes "order" ∷ order_name r.order ∷ [])
-    ∷ map (ideal_words r.names) r.ideals ++ query_lines r.names 1 r.queries ++ (codes "end" ∷ codes "report" ∷ []) ∷ []
+    ∷ map (ideal_words r.names) r.ideals ++ (query_lines r.names 1 r.queries ++ (codes "end" ∷ codes "report" ∷ []) ∷ [])
 
 -- the words joined by a blank, and LF
 abbrev pub line_text : List Bytes → Bytes
@@ -133,9 +133,10 @@ report_says r = flat_map (λ q. said_of r q q.end) r.queries
 
 -- ---- which reports can be written: those whose words are words, and whose numbers are below 2^64
 
--- no blank and no LF
+-- not empty, without a blank and without LF
 abbrev pub is_word : Bytes → Bool
-is_word w = list_all (λ b. if nat_eq b 32 || nat_eq b 10 then false else true) w
+is_word [] = false
+is_word (b ∷ bs) = list_all (λ b. if nat_eq b 32 || nat_eq b 10 then false else true) (b ∷ bs)
 
 module _ (n : ℕ) where
   abbrev pub AreWritableIdeals : List (Bytes × List Terms) → Type 0

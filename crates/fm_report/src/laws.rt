@@ -1,1 +1,28 @@
 // The laws of reports.
+ghost use Rattle.std.specs.Prelude.{◌++◌, ◌≡◌, List, length};
+ghost use Rattle.fm_poly.specs.Texts.{Bytes};
+ghost use Rattle.fm_report.specs.Statements.{Statement};
+ghost use Rattle.fm_report.specs.Reading.{statements};
+ghost use Rattle.fm_report.specs.Writing.{IsWritable, Report, report_says, report_text};
+ghost use Rattle.fm_report.specs.Holding.{VerdictsHold};
+ghost use Rattle.fm_report.specs.PrincipalQueries.{AreRight};
+
+/// A written report states the verdicts of its answered queries, in order, and nothing else.
+pub fn a_written_report_states_what_it_says()
+    ensures { (r : Report) → IsWritable r → statements (report_text r) ≡ report_says r }
+{}
+
+/// What a beginning of the bytes states is a beginning of what they state: a report that is cut states nothing that the whole report does not.
+pub fn a_beginning_states_a_beginning()
+    ensures { (front back : Bytes) → (more : List Statement) × (statements (front ++ back) ≡ statements front ++ more) }
+{}
+
+/// What a beginning of bytes states holds, if what they state holds: a report that is cut states only what the whole report does.
+pub fn verdicts_hold_in_a_beginning()
+    ensures { (front back : Bytes) → VerdictsHold (front ++ back) → VerdictsHold front }
+{}
+
+/// A written report whose answered queries are on classes of degree 1 of principal ideals, computed rightly, states only verdicts that hold in the limit, and so does each beginning of it. A query is computed rightly where f isn't 0, `f * theta = f^[p]`, and the answer tells whether `f^[q]` divides z, for the stage's q. (Moves multiply by `f^(q*(p-1))`, a factor that can be cancelled; so z is zero in the limit only if it is a coboundary at once.)
+pub fn right_reports_hold_in_the_limit()
+    ensures { (r : Report) → IsWritable r → AreRight r.prime (length r.names) r.queries → (front back : Bytes) → report_text r ≡ front ++ back → VerdictsHold front }
+{}

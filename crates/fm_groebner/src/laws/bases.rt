@@ -17,7 +17,8 @@ pub fn a_vector_reduces_to_an_irreducible_rest()
 /// With a Gröbner basis an irreducible rest is zero exactly where the vector lies in the submodule. The members need not be monic.
 pub fn an_irreducible_rest_decides_membership()
     ensures { (p : Prime) (n m : ℕ) (o : Order) (members : List (List Term)) (gens : List (List (Polynomial p n))) (by : List ℕ) (v r : List Term)
-        → IsGroebnerBasis p n m o (vectors_of p n m members) gens → AreFalling p n m o members → IsFalling p n m o v → ReducesBy p n m o members by v r → IsIrreducible members r
+        → IsGroebnerBasis p n m o (vectors_of p n m members) gens
+        → AreFalling p n m o members → IsFalling p n m o v → ReducesBy p n m o members by v r → IsIrreducible members r
         → InImage p n (generators p n m gens) (vector_of p n m v) ↔ (r ≡ []) }
 {}
 
@@ -27,8 +28,9 @@ pub fn a_groebner_basis_generates()
         → (v : List (Polynomial p n)) → InImage p n (generators p n m members) v ↔ InImage p n (generators p n m gens) v }
 {}
 
-/// Buchberger's criterion for submodules (Buchberger 1965): monic vectors are a Gröbner basis of what they span exactly where the S-vector of each pair with heads in one component reduces to zero.
-/// The product criterion plays no part, since it fails for vectors. An S-vector always is, and with a Gröbner basis each reduction of it that ends in an irreducible rest ends in zero.
+/// Buchberger's criterion for submodules (Buchberger 1965): monic vectors are a Gröbner basis of what they span exactly where the S-vector of each pair
+/// with heads in one component reduces to zero. The product criterion plays no part, since it fails for vectors. Two such vectors always have an S-vector,
+/// and with a Gröbner basis each reduction of it that ends in an irreducible rest ends in zero.
 pub fn buchbergers_criterion()
     ensures sufficient { (p : Prime) (n m : ℕ) (o : Order) (members : List (List Term)) → AreMonic p n m o members
         → ((a b : ℕ) (t u : Term) (ts us : List Term) → a < b → IsNumber members a (t ∷ ts) → IsNumber members b (u ∷ us) → t.component ≡ u.component

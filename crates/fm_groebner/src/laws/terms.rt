@@ -1,5 +1,5 @@
 // Laws of lists of terms as vectors of polynomials.
-ghost use Rattle.std.specs.Prelude.{ℕ, List, ◌∷◌, ◌++◌, ◌≡◌, length, replicate};
+ghost use Rattle.std.specs.Prelude.{ℕ, List, ◌∷◌, ◌++◌, ◌≡◌, ◌<◌, ◌≤◌, length, replicate};
 ghost use Rattle.fm_gfp.specs.declared.prime.Prime.{Prime};
 ghost use Rattle.fm_mono.specs.declared.order.Order.{Order};
 ghost use Rattle.fm_algebra.specs.Polynomials.{Polynomial, polynomial_product, polynomial_sum, polynomial_term};
@@ -16,6 +16,12 @@ pub fn a_list_of_terms_means_a_vector()
         → vector_component p n (vector_of p n m (multiple_terms p c a ts)) i ≡ polynomial_product p n (polynomial_term p n c a) (vector_component p n (vector_of p n m ts) i) }
     ensures scaled { (p : Prime) (n m c : ℕ) (ts : List Term) → HaveExponents n ts → (i : ℕ)
         → vector_component p n (vector_of p n m (scaled_terms p c ts)) i ≡ polynomial_product p n (polynomial_term p n c (replicate n 0)) (vector_component p n (vector_of p n m ts) i) }
+{}
+
+/// A vector of m polynomials is told by its components.
+pub fn a_vector_is_its_components()
+    ensures { (p : Prime) (n m : ℕ) (u v : List (Polynomial p n)) → length u ≡ m → length v ≡ m
+        → ((i : ℕ) → 0 < i → i ≤ m → vector_component p n u i ≡ vector_component p n v i) → u ≡ v }
 {}
 
 /// Each vector of m polynomials is that of one falling list of terms.

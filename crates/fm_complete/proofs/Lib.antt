@@ -1,0 +1,6 @@
+pub mod Heads
+pub mod Cancelling
+pub mod Trails
+pub mod Running
+pub mod DivisionLaw
+pub mod Principal

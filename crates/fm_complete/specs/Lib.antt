@@ -1,0 +1,7 @@
+pub mod Runs
+pub mod Divisors
+pub mod Reductions
+pub mod Divisions
+pub mod Trails
+pub mod Reduced
+pub mod Combinations

@@ -1,0 +1,17 @@
+// Division and completion of vectors by the standard run.
+#![tactic(auto)]
+
+pub mod dividing;
+pub mod division;
+pub mod laws;
+pub(crate) mod reducing;
+pub mod step;
+pub(crate) mod stepping;
+pub mod stop;
+pub mod work;
+
+pub use dividing::divide;
+pub use division::Division;
+pub use step::Step;
+pub use stop::Stop;
+pub use work::Work;

@@ -1,0 +1,104 @@
+// The head reductions of a division.
+ghost use Rattle.std.specs.Prelude.{IfErr, IfOk, [], length, ℕ, ◌<◌, ◌^◌, ◌≡◌};
+ghost use Rattle.fm_poly.specs.Polys.{IsCanonical};
+ghost use Rattle.fm_complete.specs.Divisions.{AreMembers, quotient_terms, terms_of};
+ghost use Rattle.fm_complete.specs.Reductions.{reduced};
+ghost use Rattle.fm_complete.specs.Reduced.{reduction_value};
+ghost use Rattle.fm_complete.specs.Runs.{Follows};
+ghost use Rattle.fm_complete.specs.Trails.{IsTrail, ahead};
+
+use crate::stepping::{cancel, find_step};
+use crate::{Step, Stop, Work};
+use fm_vec::Vector;
+use std::alloc::Global;
+
+/// The head reductions in their order, and the rest.
+#[derive(Drop)]
+pub(crate) struct Reduction {
+    pub steps: Vec<Step>,
+    pub rest: Vector,
+}
+
+/// Reduces v, which it doesn't copy before the first step.
+pub(crate) fn reduce(
+    alloc: Global,
+    basis: &[Vector],
+    v: &Vector,
+    work: &mut Work,
+) -> Result<Reduction, Stop>
+    requires members { AreMembers v.now.ring v.now.rows basis.now }
+    requires few { length basis.now < 2 ^ 32 }
+    ensures follows { Follows reduction_value result work.new (reduced v.now.ring (terms_of basis.now) work.old v.now.terms) }
+    ensures same { IfOk result (λ x. (x.rest.ring ≡ v.now.ring) × (x.rest.rows ≡ v.now.rows)) }
+    ensures quotients { IfOk result (λ x. (number : ℕ) → IsCanonical v.now.ring (quotient_terms number x.steps.items)) }
+{
+    let Some(head) = v.head() else {
+        return unchanged(alloc, v);
+    };
+    let Some((step, b)) = find_step(v.ring(), v.length(), basis, &head) else {
+        return unchanged(alloc, v);
+    };
+    if !work.spend() {
+        return Err(Stop::Budget);
+    }
+    let buffer = Vec::with_capacity(alloc, v.terms().len())?;
+    let rest = match cancel(v, buffer, &step, b) {
+        Ok(rest) => rest,
+        Err(stop) => return Err(stop),
+    };
+    let mut steps = Vec::new(alloc);
+    steps.push(step)?;
+    reduce_on(alloc, basis, rest, steps, work)
+}
+
+fn unchanged(alloc: Global, v: &Vector) -> Result<Reduction, Stop>
+    ensures value { IfOk result (λ x. reduction_value x ≡ record { steps = []; rest = v.now.terms }) }
+    ensures same { IfOk result (λ x. (x.rest.ring ≡ v.now.ring) × (x.rest.rows ≡ v.now.rows)) }
+    ensures memory { IfErr result (λ e. e ≡ Stop.Memory) }
+{
+    let rest = v.copy(alloc)?;
+    Ok(Reduction {
+        steps: Vec::new(alloc),
+        rest,
+    })
+}
+
+/// Reduces what earlier steps left. Two buffers take turns.
+pub(crate) fn reduce_on(
+    alloc: Global,
+    basis: &[Vector],
+    rest: Vector,
+    steps: Vec<Step>,
+    work: &mut Work,
+) -> Result<Reduction, Stop>
+    requires members { AreMembers rest.ring rest.rows basis.now }
+    requires few { length basis.now < 2 ^ 32 }
+    requires trail { IsTrail rest.ring (terms_of basis.now) steps.items rest.terms }
+    ensures follows { Follows reduction_value result work.new (ahead steps.items (reduced rest.ring (terms_of basis.now) work.old rest.terms)) }
+    ensures same { IfOk result (λ x. (x.rest.ring ≡ rest.ring) × (x.rest.rows ≡ rest.rows)) }
+    ensures trail { IfOk result (λ x. IsTrail rest.ring (terms_of basis.now) x.steps.items x.rest.terms) }
+{
+    let ring = rest.ring();
+    let rows = rest.length();
+    let mut rest = rest;
+    let mut steps = steps;
+    let mut spare = Vec::new(alloc);
+    'steps: loop {
+        let Some(head) = rest.head() else {
+            return Ok(Reduction { steps, rest });
+        };
+        let Some((step, b)) = find_step(ring, rows, basis, &head) else {
+            return Ok(Reduction { steps, rest });
+        };
+        if !work.spend() {
+            return Err(Stop::Budget);
+        }
+        let next = match cancel(&rest, spare, &step, b) {
+            Ok(next) => next,
+            Err(stop) => return Err(stop),
+        };
+        steps.push(step)?;
+        spare = rest.into_terms();
+        rest = next;
+    }
+}

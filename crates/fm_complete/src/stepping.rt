@@ -1,0 +1,98 @@
+// One head reduction.
+ghost use Rattle.std.specs.Prelude.{IfOk, IfSome, IsErrOf, MatchOption, None, OnOk, Some, false, length, true, ◌<◌, ◌^◌, ◌≡◌};
+ghost use Rattle.fm_gfp.specs.Primes.{prime_value};
+ghost use Rattle.fm_vec.specs.Multiples.{multiple_fits};
+ghost use Rattle.fm_vec.specs.Vectors.{IsTerm, IsVector};
+ghost use Rattle.fm_complete.specs.Divisions.{AreMembers, terms_of};
+ghost use Rattle.fm_complete.specs.Divisors.{first_step, step_for, term_divides};
+ghost use Rattle.fm_complete.specs.Reductions.{cancelled};
+
+use crate::{Step, Stop};
+use fm_poly::{PolyError, Ring};
+use fm_vec::{VTerm, Vector};
+
+/// The step by the first member whose head divides t, and this member.
+pub(crate) fn find_step<'a>(
+    ring: Ring,
+    rows: u32,
+    basis: &'a [Vector],
+    t: &VTerm,
+) -> Option<(Step, &'a Vector)>
+    requires term { IsTerm ring t.now }
+    requires members { AreMembers ring rows basis.now }
+    requires few { length basis.now < 2 ^ 32 }
+    ensures found { MatchOption result (first_step ring 1 (terms_of basis.entry.now) t.now ≡ None) (λ p. first_step ring 1 (terms_of basis.entry.now) t.now ≡ Some (p.0, p.1.now.terms)) }
+    ensures member { IfSome result (λ p. (p.1.now.ring ≡ ring) × (p.1.now.rows ≡ rows)) }
+    ensures proper { IfSome result (λ p. IsVector ring rows p.1.now.terms) }
+    ensures step { IfSome result (λ p. (length p.0.mono ≡ ring.vars) × (0 < p.0.coeff) × (p.0.coeff < prime_value ring.prime)) }
+{
+    let mut number = 0;
+    let mut basis = basis;
+    'members: loop {
+        let (b, later) = basis.split_first()?;
+        number += 1;
+        let Some(head) = b.head() else {
+            unreachable!();
+        };
+        if divides(ring, &head, t) {
+            return Some((step_to(ring, number, &head, t), b));
+        }
+        basis = later;
+    }
+}
+
+/// Whether b divides t.
+#[inline]
+fn divides(ring: Ring, b: &VTerm, t: &VTerm) -> bool
+    requires b_term { IsTerm ring b.now }
+    requires t_term { IsTerm ring t.now }
+    ensures { result ≡ term_divides b.now t.now }
+{
+    if b.component != t.component {
+        return false;
+    }
+    b.mono.divides(t.mono)
+}
+
+/// The step by which the member with the head b cancels t.
+fn step_to(ring: Ring, number: u32, b: &VTerm, t: &VTerm) -> Step
+    requires b_term { IsTerm ring b.now }
+    requires t_term { IsTerm ring t.now }
+    requires divides { term_divides b.now t.now ≡ true }
+    ensures value { result ≡ step_for ring number b.now t.now }
+    ensures vars { length result.mono ≡ ring.vars }
+    ensures some { 0 < result.coeff }
+    ensures below { result.coeff < prime_value ring.prime }
+{
+    let inverse = ring.prime.inverse(b.coeff);
+    Step {
+        number,
+        mono: t.mono.quotient(b.mono),
+        coeff: ring.prime.mul(t.coeff, inverse),
+    }
+}
+
+/// What the step leaves of v, written into a buffer.
+pub(crate) fn cancel(
+    v: &Vector,
+    buffer: Vec<VTerm>,
+    step: &Step,
+    b: &Vector,
+) -> Result<Vector, Stop>
+    requires ring { b.now.ring ≡ v.now.ring }
+    requires rows { b.now.rows ≡ v.now.rows }
+    requires vars { length step.now.mono ≡ v.now.ring.vars }
+    requires some { 0 < step.now.coeff }
+    requires below { step.now.coeff < prime_value v.now.ring.prime }
+    ensures value { IfOk result (λ w. w ≡ record { ring = v.now.ring; rows = v.now.rows; terms = cancelled v.now.ring (step.now, b.now.terms) v.now.terms }) }
+    ensures fits { OnOk result (multiple_fits step.now.mono b.now.terms ≡ true) }
+    ensures exponent { IsErrOf result Stop.Exponent → multiple_fits step.now.mono b.now.terms ≡ false }
+    ensures paid { IsErrOf result Stop.Budget → ⊥ }
+{
+    let minus = v.ring().prime.neg(step.coeff);
+    match v.plus_multiple(buffer, minus, step.mono, b) {
+        Ok(w) => Ok(w),
+        Err(PolyError::Exponent) => Err(Stop::Exponent),
+        Err(PolyError::Memory) => Err(Stop::Memory),
+    }
+}

@@ -1,0 +1,6 @@
+pub mod Places
+pub mod Adding
+pub mod Proper
+pub mod Meaning
+pub mod Components
+pub mod PlacedTerms

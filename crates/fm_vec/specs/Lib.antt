@@ -1,0 +1,5 @@
+pub mod Places
+pub mod Vectors
+pub mod Multiples
+pub mod Components
+pub mod Steps

@@ -1,0 +1,12 @@
+// Vectors of polynomials over GF(p) as falling lists of terms.
+#![tactic(auto)]
+
+pub(crate) mod columns;
+pub mod laws;
+pub(crate) mod multiples;
+pub(crate) mod terms;
+pub mod vector;
+pub mod vterm;
+
+pub use vector::Vector;
+pub use vterm::VTerm;
