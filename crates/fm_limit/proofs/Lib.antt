@@ -23,3 +23,5 @@ pub mod SmallIdeals
 pub mod Principal
 pub mod PrincipalFacts
 pub mod SameClass
+pub mod Blocks
+pub mod Annihilators
