@@ -14,4 +14,5 @@ pub mod TwistSteps
 pub mod KeptTerms
 pub mod PieceSteps
 pub mod SpellingSteps
+pub mod TestNames
 pub mod LargeProducts

@@ -25,6 +25,8 @@ pub mod term;
 #[cfg(test)]
 mod tests;
 pub mod text_laws;
+#[cfg(test)]
+mod text_tests;
 pub(crate) mod twisting;
 
 pub use poly::Poly;

@@ -1,5 +1,5 @@
 -- The verdicts of right reports hold.
-use Rattle.std.proofs.Common.{◌≡◌, ℕ, zero, List, [], ◌∷◌, ◌++◌, map, length, replicate, refl, sym, ap, ap₂, subst, ◌∙◌, arith, add-zero, append-nil}
+use Rattle.std.proofs.Common.{◌≡◌, ℕ, zero, ◌+◌, ◌≤◌, List, [], ◌∷◌, ◌++◌, map, length, replicate, refl, sym, ap, ap₂, subst, ◌∙◌, arith, add-zero, append-nil}
 use Rattle.std.specs.Prelude.{Option, Some, None, Bool, true, false}
 use Rattle.std.specs.List.{flat_map}
 use Rattle.fm_gfp.specs.declared.prime.Prime.{Prime}
@@ -15,11 +15,11 @@ use Rattle.fm_limit.specs.Verdicts.{HoldsOfClass, zero_class}
 use Rattle.fm_limit.specs.SmallIdeals.{one_entry, no_columns, principal}
 use Rattle.fm_limit.proofs.Principal.{times_cofactor, principal_resolved, principal_class, principal_killed, principal_zero}
 use Rattle.fm_poly.specs.Texts.{Bytes}
-use Rattle.fm_report.specs.Statements.{given, Statement, verdict, part_value, printed_matrix}
+use Rattle.fm_report.specs.Statements.{given, Answer, yes_at_stage, no, Statement, verdict, part_value, printed_matrix}
 use Rattle.fm_report.specs.Reading.{statements}
 use Rattle.fm_report.specs.Writing.{End, answered, unanswered, QueryReport, Report, said_of, report_says, report_text, IsWritable}
 use Rattle.fm_report.specs.Holding.{stage_of, QueryHolds, AllHold, VerdictsHold, VerdictsHoldSince}
-use Rattle.fm_report.specs.PrincipalQueries.{PrincipalQuery, principal_answer, principal_report, DividesExactly, IsRight, IsRightEnd, AreRight}
+use Rattle.fm_report.specs.PrincipalQueries.{PrincipalQuery, principal_answer, principal_report, principal_stated, DividesExactly, IsRight, IsRightEnd, AreRight}
 use Rattle.fm_report.proofs.Lines.{statements_begin}
 use Rattle.fm_report.proofs.Written.{report_read}
 
@@ -49,16 +49,22 @@ module _ (p : Prime) (n : ℕ) where
   answer_holds f z nonzero e true d = (zero, add-zero e, ((principal_killed p n f nonzero zero e z).1 d, λ k h. omega arith))
   answer_holds f z nonzero e false d = λ h. let w = (principal_zero p n f nonzero e z).0 h in d w.0 w.1
 
+  -- along f^(p-1) no other answer holds
+  right_answer : (f z : Polynomial p n) (nonzero : f ≡ polynomial_zero p n → ⊥) (e : ℕ) (b : Bool) → DividesExactly p n (frobenius_twist p n e f) z b
+      → (a : Answer) → HoldsOfClass p n 1 (principal p n f) e (z ∷ []) (stage_of a) → a ≡ principal_answer b e
+  right_answer f z nonzero e true d (yes_at_stage k) h =
+      let least : h.0 ≤ zero = h.2.1 zero ((principal_killed p n f nonzero zero e z).1 d) in
+      let same : k ≡ e = at_once e h.0 k h.1 least in
+      ap yes_at_stage same
+    where
+      at_once : (e s k : ℕ) → e + s ≡ k → s ≤ zero → k ≡ e
+      at_once e s k q l = omega arith
+  right_answer f z nonzero e true d no h = absurd (h ((principal_zero p n f nonzero e z).1 d))
+  right_answer f z nonzero e false d (yes_at_stage k) h = let w = (principal_killed p n f nonzero h.0 e z).0 h.2.0 in absurd (d w.0 w.1)
+  right_answer f z nonzero e false d no h = refl
+
 -- a query that is computed rightly holds
-pub principal_holds : (p : Prime) (names : List Bytes) (c : PrincipalQuery) → IsRight p (length names) c
-    → QueryHolds (record {
-      prime = p;
-      names = names;
-      question = (principal_report (length names) c).question;
-      answer = principal_answer c.divides c.stage;
-      resolution = map given (principal_report (length names) c).resolution;
-      lift = map given (principal_report (length names) c).lift;
-    })
+pub principal_holds : (p : Prime) (names : List Bytes) (c : PrincipalQuery) → IsRight p (length names) c → QueryHolds (principal_stated p names c (principal_answer c.divides c.stage))
 unfolding QueryHolds part_value printed_matrix ideal_with
 principal_holds p names c r =
     let n = length names in
@@ -69,6 +75,16 @@ principal_holds p names c r =
       subst (λ I. limit.Holds p n (zero_class 1 I c.stage (z ∷ []) (stage_of (principal_answer c.divides c.stage)))) (sym ideal)
           (principal_class p n f r.nonzero c.stage z, answer_holds p n f z r.nonzero c.stage c.divides r.answer),
     )
+
+-- an answer that holds is the right one
+pub only_the_right_answer : (p : Prime) (names : List Bytes) (c : PrincipalQuery) → IsRight p (length names) c → (a : Answer) → QueryHolds (principal_stated p names c a) → a ≡ principal_answer c.divides c.stage
+unfolding QueryHolds part_value printed_matrix ideal_with
+only_the_right_answer p names c r a h =
+    let n = length names in
+    let f = polynomial_of p n c.f in
+    let z = polynomial_of p n c.z in
+    let ideal = is_principal p n f (polynomial_of p n ((replicate n 0, 1) ∷ [])) (polynomial_of p n c.theta) r.nonzero (one_means p n) r.lift in
+    right_answer p n f z r.nonzero c.stage c.divides r.answer a (subst (λ I. HoldsOfClass p n 1 I c.stage (z ∷ []) (stage_of a)) ideal h.1.1)
 
 -- ---- reports
 all_append : (xs ys : List Statement) → AllHold xs → AllHold ys → AllHold (xs ++ ys)

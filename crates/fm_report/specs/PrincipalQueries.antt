@@ -1,9 +1,9 @@
 -- Queries on classes of degree 1 of principal ideals, as they are answered.
-use Rattle.std.specs.Prelude.{◌≡◌, ℕ, List, [], ◌∷◌, replicate, Bool, true, false}
+use Rattle.std.specs.Prelude.{◌≡◌, ℕ, List, [], ◌∷◌, map, length, replicate, Bool, true, false}
 use Rattle.fm_gfp.specs.declared.prime.Prime.{Prime}
 use Rattle.fm_algebra.specs.Polynomials.{Polynomial, polynomial_of, polynomial_zero, polynomial_product, frobenius_twist}
 use Rattle.fm_poly.specs.Texts.{Bytes, Terms}
-use Rattle.fm_report.specs.Statements.{PrintedMatrix, class, Answer, yes_at_stage, no}
+use Rattle.fm_report.specs.Statements.{PrintedMatrix, given, class, Answer, yes_at_stage, no, AnsweredQuery}
 use Rattle.fm_report.specs.Writing.{End, answered, unanswered, QueryReport}
 
 -- The class (stage, z) of the ideal of f: what is computed for it is theta, the lift of Frobenius, and whether f^[q] divides z, for
@@ -53,3 +53,14 @@ IsRightEnd p n q (unanswered why) = Unit {0}
 abbrev pub AreRight : (p : Prime) (n : ℕ) → List QueryReport → Type 0
 AreRight p n [] = Unit {0}
 AreRight p n (q ∷ qs) = IsRightEnd p n q q.end × AreRight p n qs
+
+-- the query as it is stated, over GF(p)[names], with any answer
+abbrev pub principal_stated : Prime → List Bytes → PrincipalQuery → Answer → AnsweredQuery
+principal_stated p names q a = record {
+  prime = p;
+  names = names;
+  question = (principal_report (length names) q).question;
+  answer = a;
+  resolution = map given (principal_report (length names) q).resolution;
+  lift = map given (principal_report (length names) q).lift;
+}

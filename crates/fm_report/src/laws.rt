@@ -1,11 +1,12 @@
 // The laws of reports.
 ghost use Rattle.std.specs.Prelude.{◌++◌, ◌≡◌, List, length};
 ghost use Rattle.fm_poly.specs.Texts.{Bytes};
-ghost use Rattle.fm_report.specs.Statements.{Statement};
+ghost use Rattle.fm_report.specs.Statements.{Answer, Statement};
+ghost use Rattle.fm_gfp.specs.declared.prime.Prime.{Prime};
 ghost use Rattle.fm_report.specs.Reading.{statements};
 ghost use Rattle.fm_report.specs.Writing.{IsWritable, Report, report_says, report_text};
-ghost use Rattle.fm_report.specs.Holding.{VerdictsHold};
-ghost use Rattle.fm_report.specs.PrincipalQueries.{AreRight};
+ghost use Rattle.fm_report.specs.Holding.{QueryHolds, VerdictsHold};
+ghost use Rattle.fm_report.specs.PrincipalQueries.{AreRight, IsRight, PrincipalQuery, principal_answer, principal_stated};
 
 /// A written report states the verdicts of its answered queries, in order, and nothing else.
 pub fn a_written_report_states_what_it_says()
@@ -25,4 +26,10 @@ pub fn verdicts_hold_in_a_beginning()
 /// A written report whose answered queries are on classes of degree 1 of principal ideals, computed rightly, states only verdicts that hold in the limit, and so does each beginning of it. A query is computed rightly where f isn't 0, `f * theta = f^[p]`, and the answer tells whether `f^[q]` divides z, for the stage's q. (Moves multiply by `f^(q*(p-1))`, a factor that can be cancelled; so z is zero in the limit only if it is a coboundary at once.)
 pub fn right_reports_hold_in_the_limit()
     ensures { (r : Report) → IsWritable r → AreRight r.prime (length r.names) r.queries → (front back : Bytes) → report_text r ≡ front ++ back → VerdictsHold front }
+{}
+
+/// Along the matrices of a query that is computed rightly only one answer holds: the one that the division gives.
+pub fn wrong_answers_do_not_hold()
+    ensures right { (p : Prime) (names : List Bytes) (q : PrincipalQuery) → IsRight p (length names) q → QueryHolds (principal_stated p names q (principal_answer q.divides q.stage)) }
+    ensures only { (p : Prime) (names : List Bytes) (q : PrincipalQuery) → IsRight p (length names) q → (a : Answer) → QueryHolds (principal_stated p names q a) → a ≡ principal_answer q.divides q.stage }
 {}

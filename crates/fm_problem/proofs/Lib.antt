@@ -1,0 +1,12 @@
+pub mod FactorCuts
+pub mod TermCuts
+pub mod TermSums
+pub mod AsciiNames
+pub mod PrimeList
+pub mod FirstFaults
+pub mod NamesRead
+pub mod NamedStatements
+pub mod SoundPolynomials
+pub mod SoundNames
+pub mod SoundProblems
+pub mod OneReading

@@ -1,0 +1,19 @@
+-- Faults of a problem text.
+use Rattle.std.specs.Prelude.{ℕ, List, codes}
+use Rattle.fm_problem.specs.declared.fault_kind.FaultKind.{FaultKind}
+use Rattle.fm_problem.specs.declared.fault_kind.FaultKind.TheVariants.{Syntax, UnknownName, Repeated, Range, NotPrime, Limit, NotBuilt}
+
+-- a fault with the number of its line
+pub record Fault : Type 0 where
+  pub line : ℕ
+  pub kind : FaultKind
+
+-- the words that name a fault
+abbrev pub fault_text : FaultKind → List ℕ
+fault_text Syntax = codes "syntax"
+fault_text UnknownName = codes "unknown name"
+fault_text Repeated = codes "repeated name"
+fault_text Range = codes "degree out of range"
+fault_text NotPrime = codes "not a listed prime"
+fault_text Limit = codes "above a limit"
+fault_text NotBuilt = codes "not built"

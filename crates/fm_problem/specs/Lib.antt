@@ -1,0 +1,11 @@
+pub mod Faults
+pub mod Steps
+pub mod Factors
+pub mod SumOfTerms
+pub mod Polynomials
+pub mod Statements
+pub mod Problems
+pub mod Certificates
+pub mod Readings
+pub mod Views
+pub mod Sound

@@ -1,0 +1,35 @@
+// Laws of problem texts.
+ghost use Rattle.std.specs.Prelude.{All, Err, List, Ok, ℕ, ◌⊎◌, ◌≡◌};
+ghost use Rattle.fm_poly.specs.Polys.{IsCanonical, IsTermOf, meaning};
+ghost use Rattle.fm_poly.specs.declared.ring.Ring.{Ring};
+ghost use Rattle.fm_poly.specs.declared.term.Term.{Term};
+ghost use Rattle.fm_words.specs.Parts.{Bytes};
+ghost use Rattle.fm_problem.specs.Faults.{Fault};
+ghost use Rattle.fm_problem.specs.Problems.{problem_of, query_of};
+ghost use Rattle.fm_problem.specs.Sound.{IsProblem, IsQueryOf};
+ghost use Rattle.fm_problem.specs.SumOfTerms.{sum_of_terms};
+ghost use Rattle.fm_problem.specs.declared.problem.Problem.{Problem};
+ghost use Rattle.fm_problem.specs.declared.query.Query.{Query};
+
+/// A text has a reading or a first fault, never both, and never two of either.
+pub fn a_text_has_one_reading_or_one_first_fault()
+    ensures some { (text : Bytes) → ((q : Problem) × (problem_of text ≡ Ok q)) ⊎ ((f : Fault) × (problem_of text ≡ Err f)) }
+    ensures not_both { (text : Bytes) (q : Problem) (f : Fault) → problem_of text ≡ Ok q → problem_of text ≡ Err f → ⊥ }
+    ensures one_reading { (text : Bytes) (q s : Problem) → problem_of text ≡ Ok q → problem_of text ≡ Ok s → q ≡ s }
+    ensures one_fault { (text : Bytes) (f g : Fault) → problem_of text ≡ Err f → problem_of text ≡ Err g → f ≡ g }
+{}
+
+/// A problem that a text says is within the limits, no name of it stands twice in one list, its polynomials are of its
+/// ring, its generators aren't zero, and its ideal numbers exist.
+pub fn problems_of_texts_are_sound()
+    ensures problem { (text : Bytes) (q : Problem) → problem_of text ≡ Ok q → IsProblem q }
+    ensures query { (q : Problem) (line : Bytes) (z : Query) → IsProblem q → query_of q line ≡ Ok z → IsQueryOf q z }
+{}
+
+/// The sum of written terms, one exponent for each variable and a coefficient below p in each, is a falling list of
+/// nonzero terms, and it means the sum of what the terms mean. So it is the only list of terms that a polynomial which
+/// the text spells can have.
+pub fn sums_of_written_terms()
+    ensures falling { (r : Ring) (ts : List Term) → All (IsTermOf r) ts → IsCanonical r (sum_of_terms r ts) }
+    ensures meaning { (r : Ring) (ts : List Term) → meaning r (sum_of_terms r ts) ≡ meaning r ts }
+{}

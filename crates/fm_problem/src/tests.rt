@@ -1,0 +1,363 @@
+// What the clauses don't say: that texts are read at all, and that the definitions are those of the grammar. The expected
+// values come from an independent reader.
+use crate::{
+    FaultKind, PolyFault, Problem, ProblemError, Query, read_poly, read_problem, read_query,
+};
+use fm_gfp::Prime;
+use fm_mono::Order;
+use fm_poly::{Poly, Ring};
+use std::alloc::Global;
+use std::test::Fail;
+
+// A text, the line of its first fault, and its kind.
+type Row = (&'static str, u32, FaultKind);
+
+const NORMAL_CROSSING: &[u8] = b"ring 3 x y\nideal I = x*y\nclass 1 I 0 (x^2*y)\n";
+
+const FORMS: [Row; 26] = [
+    ("", 1, FaultKind::Syntax),
+    ("# only", 2, FaultKind::Syntax),
+    ("# only\n", 2, FaultKind::Syntax),
+    ("\r\n", 2, FaultKind::Syntax),
+    ("\n\n", 3, FaultKind::Syntax),
+    ("zero 1 I", 1, FaultKind::Syntax),
+    ("# c\n\nideal I = x", 3, FaultKind::Syntax),
+    ("order lex\nring 2 x", 1, FaultKind::Syntax),
+    ("ring 2 x\r\r\n", 1, FaultKind::Syntax),
+    ("ring 2 x\x0c", 1, FaultKind::Syntax),
+    ("ring 2 x\x0b", 1, FaultKind::Syntax),
+    ("ring 2 x\nring 4 x", 2, FaultKind::Syntax),
+    ("ring 2 x\norder lex\norder lex", 3, FaultKind::Syntax),
+    ("ring 2 x\nideal I = x\norder lex", 3, FaultKind::Syntax),
+    ("ring 2 x\nideal I = 2x", 2, FaultKind::Syntax),
+    ("ring 2 x\nideal 1I = x", 2, FaultKind::Syntax),
+    ("ring 3 x\nideal I = 2^3", 2, FaultKind::Syntax),
+    ("ring 2 x\nideal I = x +- x", 2, FaultKind::Syntax),
+    ("ring 2 x\nideal I = x\nmember I-x", 3, FaultKind::Syntax),
+    ("ring 2 x\nideal I = x\ninvert 1 I+x", 3, FaultKind::Syntax),
+    ("ring 2 x\nideal I = x\nmember I -x", 3, FaultKind::NotBuilt),
+    (
+        "ring 2 x\nideal I = x\nzero 9 T extra",
+        3,
+        FaultKind::Syntax,
+    ),
+    (
+        "ring 2 x\nideal I = x\nclass 1 I 0 ( )",
+        3,
+        FaultKind::NotBuilt,
+    ),
+    (
+        "ring 2 x\nideal I = 0\nclass 1 I 0 (x)",
+        3,
+        FaultKind::NotBuilt,
+    ),
+    (
+        "ring 2 x\nideal I = x\nclass 0 I 0 (x)",
+        3,
+        FaultKind::NotBuilt,
+    ),
+    ("ring 2 x\nfoo\nideal I = t", 2, FaultKind::Syntax),
+];
+
+const VALUES: [Row; 22] = [
+    ("ring 4 x", 1, FaultKind::NotPrime),
+    ("ring 18446744073709551618 x", 1, FaultKind::NotPrime),
+    (
+        "ring 2 x y\nideal I = x\nideal I = y",
+        3,
+        FaultKind::Repeated,
+    ),
+    ("ring 2 a b c d e f g h a", 1, FaultKind::Repeated),
+    ("ring 2 a b c d e f g h i", 1, FaultKind::Limit),
+    ("ring 2 abcdefghijklmnopq", 1, FaultKind::Limit),
+    ("ring 2 x\nideal abcdefghijklmnopq = t", 2, FaultKind::Limit),
+    ("ring 2 x\nideal I = x\nzero 2 I", 3, FaultKind::Range),
+    (
+        "ring 2 x\nideal I = x\nzero 99999999999999999999999999999999999999999999999999 I\n",
+        3,
+        FaultKind::Range,
+    ),
+    (
+        "ring 2 x\nideal I = x\nzero 1 Iaaaaaaaaaaaaaaaaa",
+        3,
+        FaultKind::UnknownName,
+    ),
+    ("ring 2 x\nideal I = x\nroot 1 J", 3, FaultKind::UnknownName),
+    ("ring 2 x\nideal I = x^1001", 2, FaultKind::Limit),
+    ("ring 2 x\nideal I = x^600*x^401", 2, FaultKind::Limit),
+    ("ring 2 x\nideal I = 0*x^1001", 2, FaultKind::Limit),
+    ("ring 2 x\nideal I = x^1001-x^1001", 2, FaultKind::Limit),
+    (
+        "ring 2 x\nideal I = x^99999999999999999999999999999999999999999999999999",
+        2,
+        FaultKind::Limit,
+    ),
+    (
+        "ring 2 x\nideal I = 18446744073709551616",
+        2,
+        FaultKind::Limit,
+    ),
+    ("ring 2 x\nideal I = t^1001", 2, FaultKind::UnknownName),
+    ("ring 2 x\nideal I = x*t", 2, FaultKind::UnknownName),
+    (
+        "ring 2 x\nideal I = x\nclass 1 I 17 (x)",
+        3,
+        FaultKind::Limit,
+    ),
+    (
+        "ring 2 x\nideal I = x\nclass 2 J 17 (t)",
+        3,
+        FaultKind::Range,
+    ),
+    (
+        "ring 2 x\nideal I = x\nclass 1 I 0 (t)\nfoo",
+        3,
+        FaultKind::UnknownName,
+    ),
+];
+
+fn fault_of(alloc: Global, text: &[u8]) -> Result<Option<(u32, FaultKind)>, Fail> {
+    if text.len() > 1_048_576 {
+        return Ok(None);
+    }
+    match read_problem(alloc, text) {
+        Ok(_) => Ok(None),
+        Err(ProblemError::Fault { line, kind }) => Ok(Some((line, kind))),
+        Err(error) => Err(error)?,
+    }
+}
+
+fn problem_of(alloc: Global, text: &[u8]) -> Result<Problem, Fail> {
+    let short = if text.len() > 1_048_576 {
+        b"".as_slice()
+    } else {
+        text
+    };
+    Ok(read_problem(alloc, short)?)
+}
+
+fn is_poly(f: &Poly, want: &[(u8, &[u16])]) -> bool {
+    let terms = f.terms();
+    if terms.len() != want.len() {
+        return false;
+    }
+    for (t, (coeff, exponents)) in terms.iter().zip(want) {
+        if t.coeff.number() != *coeff || t.mono.exponents() != *exponents {
+            return false;
+        }
+    }
+    true
+}
+
+#[test]
+fn names_the_first_fault(rt: HostRuntime) -> Result<(), Fail> {
+    for (text, line, kind) in FORMS.iter().chain(VALUES.iter()) {
+        let found = fault_of(rt.alloc(), text.as_bytes())?;
+        assert_eq!(rt; found, Some((*line, *kind)), "{text}");
+    }
+    Ok(())
+}
+
+#[test]
+fn reads_whole_values(rt: HostRuntime) -> Result<(), Fail> {
+    let text =
+        b" ring 007 x y\r\n#\xff\n\t\norder lex\nideal I = - x^2 * x*3 + 10*y ^ 0 - 0*y + x,0\nclass 01 I 16(y-y+x*y )";
+    let problem = problem_of(rt.alloc(), text)?;
+    let ring = Ring {
+        prime: Prime::Seven,
+        vars: 2,
+        order: Order::Lex,
+    };
+    assert_eq!(rt; problem.ring, ring);
+    let names = problem.vars.as_slice();
+    assert!(rt; names.len() == 2 && names[0].as_str() == "x" && names[1].as_str() == "y");
+    let ideals = problem.ideals.as_slice();
+    assert!(rt; ideals.len() == 1 && ideals[0].name.as_str() == "I");
+    let generators = ideals[0].generators.as_slice();
+    assert!(rt; generators.len() == 1);
+    assert!(rt; is_poly(&generators[0], &[(4, &[3, 0]), (1, &[1, 0]), (3, &[0, 0])]));
+    let queries = problem.queries.as_slice();
+    assert!(rt; queries.len() == 1);
+    match &queries[0] {
+        Query::Class {
+            i: 1,
+            ideal: 0,
+            e: 16,
+            z,
+        } => {
+            let entries = z.as_slice();
+            assert!(rt; entries.len() == 1 && is_poly(&entries[0], &[(1, &[1, 1])]));
+        }
+        _ => assert!(rt; false),
+    }
+    let query = read_query(rt.alloc(), &problem, b"class 1 I 0 (1)")?;
+    assert!(rt;
+        matches!(
+            &query,
+            Query::Class {
+                i: 1,
+                ideal: 0,
+                e: 0,
+                ..
+            }
+        )
+    );
+    let ended = read_query(rt.alloc(), &problem, b"class 1 I 0 (1)\r");
+    assert!(rt;
+        matches!(
+            &ended,
+            Err(ProblemError::Fault {
+                line: 1,
+                kind: FaultKind::Syntax
+            })
+        )
+    );
+    let comment = read_query(rt.alloc(), &problem, b"# class 1 I 0 (1)");
+    assert!(rt;
+        matches!(
+            &comment,
+            Err(ProblemError::Fault {
+                line: 1,
+                kind: FaultKind::Syntax
+            })
+        )
+    );
+    Ok(())
+}
+
+#[test]
+fn reads_polynomials_of_certificates(rt: HostRuntime) -> Result<(), Fail> {
+    let problem = problem_of(rt.alloc(), b"ring 5 x y")?;
+    let names = problem.vars.as_slice();
+    assert!(rt; names.len() == 2);
+    let ring = Ring {
+        prime: Prime::Five,
+        vars: 2,
+        order: Order::Grevlex,
+    };
+    let f = read_poly(rt.alloc(), ring, names, b"-x^65535*y+06*x+0*y^65535")?;
+    assert!(rt; is_poly(&f, &[(4, &[65535, 1]), (1, &[1, 0])]));
+    for text in [
+        "",
+        "x y",
+        "x +y",
+        "t",
+        "x^65536+t",
+        "x^65536*18446744073709551616",
+        "2^3",
+    ] {
+        assert!(rt;
+            matches!(
+                &read_poly(rt.alloc(), ring, names, text.as_bytes()),
+                Err(PolyFault::Form)
+            ),
+            "{text}"
+        );
+    }
+    for text in ["x^65536", "0*x^65535*x", "y-x^99999999999999999999"] {
+        assert!(rt;
+            matches!(
+                &read_poly(rt.alloc(), ring, names, text.as_bytes()),
+                Err(PolyFault::Exponent)
+            ),
+            "{text}"
+        );
+    }
+    Ok(())
+}
+
+#[test]
+fn judges_cut_texts(rt: HostRuntime) -> Result<(), Fail> {
+    for cut in 0..NORMAL_CROSSING.len() {
+        let line = match cut {
+            0..=7 => 1,
+            12..=21 | 23 => 2,
+            26..=43 => 3,
+            _ => 0,
+        };
+        let want = if line == 0 {
+            None
+        } else {
+            Some((line, FaultKind::Syntax))
+        };
+        let found = fault_of(rt.alloc(), &NORMAL_CROSSING[..cut])?;
+        assert_eq!(rt; found, want, "{cut}");
+    }
+    Ok(())
+}
+
+// `head`, `count` times `part`, and `tail`.
+fn repeated(
+    alloc: Global,
+    head: &str,
+    part: &str,
+    count: u32,
+    tail: &str,
+) -> Result<Vec<u8>, Fail> {
+    let mut text = Vec::new(alloc);
+    text.extend_from_slice(head.as_bytes())?;
+    for _ in 0..count {
+        text.extend_from_slice(part.as_bytes())?;
+    }
+    text.extend_from_slice(tail.as_bytes())?;
+    Ok(text)
+}
+
+// `ring 2 x`, `count` ideals, and a last line.
+fn with_ideals(alloc: Global, count: u32, last: &str) -> Result<Vec<u8>, Fail> {
+    let mut text = Vec::new(alloc);
+    text.extend_from_slice(b"ring 2 x\n")?;
+    for k in 0..count {
+        text.extend_from_slice(format!(in alloc; "ideal I{k} = x\n")?.as_bytes())?;
+    }
+    text.extend_from_slice(last.as_bytes())?;
+    Ok(text)
+}
+
+#[test]
+fn judges_long_texts(rt: HostRuntime) -> Result<(), Fail> {
+    let alloc = rt.alloc();
+    let head = "ring 2 x\nideal I = ";
+    assert_eq!(rt;
+        fault_of(alloc, &repeated(alloc, head, "x,", 63, "0")?)?,
+        None
+    );
+    let limit = Some((2, FaultKind::Limit));
+    assert_eq!(rt;
+        fault_of(alloc, &repeated(alloc, head, "0,", 64, "x")?)?,
+        limit
+    );
+    assert_eq!(rt;
+        fault_of(alloc, &repeated(alloc, head, "x,", 64, "-t")?)?,
+        limit
+    );
+    let unknown = Some((2, FaultKind::UnknownName));
+    assert_eq!(rt;
+        fault_of(alloc, &repeated(alloc, head, "x,", 63, "t,x")?)?,
+        unknown
+    );
+    assert_eq!(rt; fault_of(alloc, &with_ideals(alloc, 100, "")?)?, None);
+    assert_eq!(rt;
+        fault_of(alloc, &with_ideals(alloc, 100, "ideal I0 = t")?)?,
+        Some((102, FaultKind::Limit))
+    );
+    assert_eq!(rt;
+        fault_of(alloc, &with_ideals(alloc, 100, "ideal J x")?)?,
+        Some((102, FaultKind::Syntax))
+    );
+    let query = "class 1 I 0 (x)\n";
+    let begun = "ring 2 x\nideal I = x\n";
+    assert_eq!(rt;
+        fault_of(alloc, &repeated(alloc, begun, query, 1000, "")?)?,
+        None
+    );
+    assert_eq!(rt;
+        fault_of(alloc, &repeated(alloc, begun, query, 1000, "zero 9 t")?)?,
+        Some((1003, FaultKind::Limit))
+    );
+    assert_eq!(rt;
+        fault_of(alloc, &repeated(alloc, begun, query, 1000, "zero 9")?)?,
+        Some((1003, FaultKind::Syntax))
+    );
+    Ok(())
+}

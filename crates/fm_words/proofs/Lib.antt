@@ -1,0 +1,3 @@
+pub mod LargeNumbers
+pub mod LineEnds
+pub mod Cuts
