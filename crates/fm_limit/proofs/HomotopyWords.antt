@@ -40,7 +40,7 @@ module _ (p : Prime) (n : ℕ) where
         subst (λ v. IsCoboundary (matrices p n) (degree_in p n i I) e v) (ap₂ (λ u v. add (polynomials p n) u (neg (polynomials p n) v)) (sym (image_read p n r s k e z)) (sym (image_read p n r s l e z))) h
 
     module _ {ls : List (PolynomialMatrix p n)} (k : IsLiftOfIdentityOf p n i I.differentials J.differentials ls) where
-      maps : Maps (matrices p n) (degree_in p n i J) (degree_in p n i I) (lambda_of p n I.differentials J.differentials ls i)
+      pub maps : Maps (matrices p n) (degree_in p n i J) (degree_in p n i I) (lambda_of p n I.differentials J.differentials ls i)
       maps =
           lift_maps (matrices_laws p n) i (complex_of p n I.differentials) (complex_of p n J.differentials) (resolution_read p n r.resolution) (resolution_read p n s.resolution) (theta_of p n J.differentials J.lift) (theta_of p n I.differentials I.lift) (lambda_of p n I.differentials J.differentials ls) (frobenius_read p n s.resolution s.frobenius) (frobenius_read p n r.resolution r.frobenius) (identity_read p n r.resolution s.resolution k)
 

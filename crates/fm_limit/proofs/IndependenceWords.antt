@@ -3,7 +3,7 @@ use Rattle.std.proofs.Common.{ℕ, zero, ◌≡◌, ◌∙◌, ◌↔◌, refl, 
 use Rattle.fm_gfp.specs.Primes.{prime_value}
 use Rattle.fm_gfp.proofs.Residues.{prime_positive}
 use Rattle.fm_gfp.specs.declared.prime.Prime.{Prime}
-use Rattle.fm_algebra.specs.Families.{only, Mat, mul, add, neg, read, vector, element}
+use Rattle.fm_algebra.specs.Families.{only, Mat, mul, add, neg, read, vector, element, unit, flip, each}
 use Rattle.fm_algebra.specs.Matrix.{component}
 use Rattle.fm_algebra.specs.Image as image
 use Rattle.fm_algebra.specs.Polynomials.{Polynomial, polynomials, polynomial_power, frobenius_twist}
@@ -11,16 +11,18 @@ use Rattle.fm_algebra.specs.PolynomialMatrices.{PolynomialMatrix, HasShape, matr
 use Rattle.fm_algebra.proofs.Concrete.{polynomials_laws}
 use Rattle.fm_algebra.proofs.FamilyPowers.{single}
 use Rattle.fm_algebra.proofs.Images.{within_columns}
-use Rattle.fm_algebra.proofs.Tables.{vector_apply, length-apply, list_of, length-list_of, vector_list_of}
+use Rattle.fm_algebra.proofs.Tables.{vector_apply, length-apply, list_of, length-list_of, vector_list_of, vector_injective}
 use Rattle.fm_algebra.proofs.ListImages.{through, list_image}
 use Rattle.fm_limit.specs.DirectSystem.{IsCocycle, IsCoboundary, IsKilledBy, IsZeroInLimit, moved}
 use Rattle.fm_limit.specs.Limit.{mapped}
-use Rattle.fm_limit.specs.ResolvedIdeal.{ResolvedIdeal, matrix_at, row, InIdeal, LiesIn, IsResolved, IsLiftOfIdentityOf}
+use Rattle.fm_limit.specs.ResolvedIdeal.{ResolvedIdeal, matrix_at, row, InIdeal, LiesIn, IsResolved, IsLiftOfIdentityOf, rank}
 use Rattle.fm_limit.specs.Classes.{matrices, complex_of, theta_of, lambda_of, degree_in, length_in, vector_in, image_of, IsClass, IsCoboundaryAfter, IsZeroClass, IsSameClass, IsZeroLimit, VanishesAfterInverting, AnnihilatesClasses, IsEnoughMoves, IsSupportIdealOf, IsMapOfClasses, IsZeroMap, IsOneToOneMap, IsOntoMap, IsOntoAfter}
 use Rattle.fm_limit.specs.Verdicts.{IsLeast, zero_limit, inverting, support, Holds, HoldsOfOnto, induced_map}
 use Rattle.fm_limit.proofs.FactsRead.{matrices_laws, matrices_power, resolution_read, frobenius_read, identity_read}
 use Rattle.fm_limit.proofs.Resolved.{Resolved, Inside, carried_class, carried_killed, carried_zero, carried_onto, same_zero, same_vanishing, same_annihilators, same_enough, same_support, same_map_classes, same_map_zero, same_map_one, same_map_onto, same_onto_by}
-use Rattle.fm_limit.proofs.MatrixWords.{dual_fits, dual_read, row_fits}
+use Rattle.fm_limit.proofs.MatrixWords.{dual_fits, dual_read, row_fits, unit_read}
+use Rattle.fm_limit.proofs.Resolutions.{IsLiftOfIdentity}
+use Rattle.fm_limit.proofs.Independence.{flip_unit, lift_exists}
 
 module _ (p : Prime) (n : ℕ) where
   -- an ideal with its resolution and its lift, as the theory has it
@@ -73,6 +75,15 @@ module _ (p : Prime) (n : ℕ) where
       fits = image_length_words e z;
       cocycle = subst (λ x. IsCocycle (matrices p n) (degree_in p n i I) e x) (sym (image_read e z)) (carried_class (matrices_laws p n) (prime_value p) (prime_positive p) (matrices_power p n) (resolved_read r) (resolved_read s) (lambda_of p n I.differentials J.differentials ls) (identity_read p n r.resolution s.resolution k) (inside_read r s ij) e (vector_in p n i J z) c.cocycle);
     }
+
+  -- in degree 0 the image of z is z
+  pub image_first : {I J : ResolvedIdeal p n} {ls : List (PolynomialMatrix p n)} (r : IsResolved p n 0 I) (s : IsResolved p n 0 J) (k : IsLiftOfIdentityOf p n 0 I.differentials J.differentials ls)
+      → (e : ℕ) (z : List (Polynomial p n)) → length z ≡ 1 → image_of p n 0 ls e z ≡ z
+  image_first {I} {J} {ls} r s k e z l =
+      let v = vector (polynomials p n) 1 z in
+      let q : read (polynomials p n) 1 1 (matrix_at p n ls 0) ≡ unit (polynomials p n) 1 = ap (read (polynomials p n) 1 1) k.first ∙ unit_read p n 1 in
+      let a : mapped (matrices p n) (degree_in p n 0 J) (degree_in p n 0 I) (lambda_of p n I.differentials J.differentials ls 0) e v ≡ v = ap (λ A. mul (polynomials p n) (flip (polynomials p n) {m = 1} {n = 1} (each (polynomials p n) (frobenius_twist p n e) {m = 1} {n = 1} A)) v) q ∙ ap (λ A. mul (polynomials p n) (flip (polynomials p n) {m = 1} {n = 1} A) v) ((matrices_laws p n).twist_unit e 1) ∙ ap (λ A. mul (polynomials p n) A v) (flip_unit (matrices_laws p n) 1) ∙ (matrices_laws p n).unit_left v in
+      vector_injective (polynomials p n) 1 (image_of p n 0 ls e z) z (image_length_words r s k e z) l (image_read r s k e z ∙ a)
 
   -- ---- one ideal, resolved twice
   module _ {i : ℕ} {I J : ResolvedIdeal p n} (r : IsResolved p n i I) (s : IsResolved p n i J) (ij : LiesIn p n I.generators J.generators) (ji : LiesIn p n J.generators I.generators) where
@@ -127,23 +138,28 @@ module _ (p : Prime) (n : ℕ) where
     support_verdict_words fs h = (support_words fs h.0, λ a. through (h.1 a) (annihilates_words a))
 
     -- ---- classes are carried over by lifts of the identity
-    module _ {ls ms : List (PolynomialMatrix p n)} (k : IsLiftOfIdentityOf p n i I.differentials J.differentials ls) (l : IsLiftOfIdentityOf p n i J.differentials I.differentials ms) where
+    module _ {ls : List (PolynomialMatrix p n)} (k : IsLiftOfIdentityOf p n i I.differentials J.differentials ls) where
+      -- a lift in the other direction
+      other : (l : (j : ℕ) → (matrices p n).Mat (rank p n I.differentials j) (rank p n J.differentials j)) × IsLiftOfIdentity (matrices p n) i (complex_of p n J.differentials) (complex_of p n I.differentials) l
+      other =
+          lift_exists (matrices_laws p n) i (complex_of p n J.differentials) (complex_of p n I.differentials) (resolution_read p n s.resolution) (resolution_read p n r.resolution) (inside_read s r ji)
+
       pub carried_killed_words : (m e : ℕ) (z : List (Polynomial p n)) → IsClass p n i J e z → IsCoboundaryAfter p n i J m e z ↔ IsCoboundaryAfter p n i I m e (image_of p n i ls e z)
       unfolding IsCoboundaryAfter
       carried_killed_words m e z c =
-          subst (λ x. IsCoboundaryAfter p n i J m e z ↔ IsKilledBy (matrices p n) (degree_in p n i I) m e x) (sym (image_read r s k e z)) (carried_killed (matrices_laws p n) (prime_value p) (prime_positive p) (matrices_power p n) (resolved_read r) (resolved_read s) (lambda_of p n I.differentials J.differentials ls) (lambda_of p n J.differentials I.differentials ms) (identity_read p n r.resolution s.resolution k) (identity_read p n s.resolution r.resolution l) (inside_read r s ij) m e (vector_in p n i J z) c.cocycle)
+          subst (λ x. IsCoboundaryAfter p n i J m e z ↔ IsKilledBy (matrices p n) (degree_in p n i I) m e x) (sym (image_read r s k e z)) (carried_killed (matrices_laws p n) (prime_value p) (prime_positive p) (matrices_power p n) (resolved_read r) (resolved_read s) (lambda_of p n I.differentials J.differentials ls) other.0 (identity_read p n r.resolution s.resolution k) other.1 (inside_read r s ij) m e (vector_in p n i J z) c.cocycle)
 
       pub carried_zero_words : (e : ℕ) (z : List (Polynomial p n)) → IsClass p n i J e z → IsZeroClass p n i J e z ↔ IsZeroClass p n i I e (image_of p n i ls e z)
       unfolding IsZeroClass
       carried_zero_words e z c =
-          subst (λ x. IsZeroClass p n i J e z ↔ IsZeroInLimit (matrices p n) (degree_in p n i I) e x) (sym (image_read r s k e z)) (carried_zero (matrices_laws p n) (prime_value p) (prime_positive p) (matrices_power p n) (resolved_read r) (resolved_read s) (lambda_of p n I.differentials J.differentials ls) (lambda_of p n J.differentials I.differentials ms) (identity_read p n r.resolution s.resolution k) (identity_read p n s.resolution r.resolution l) (inside_read r s ij) e (vector_in p n i J z) c.cocycle)
+          subst (λ x. IsZeroClass p n i J e z ↔ IsZeroInLimit (matrices p n) (degree_in p n i I) e x) (sym (image_read r s k e z)) (carried_zero (matrices_laws p n) (prime_value p) (prime_positive p) (matrices_power p n) (resolved_read r) (resolved_read s) (lambda_of p n I.differentials J.differentials ls) other.0 (identity_read p n r.resolution s.resolution k) other.1 (inside_read r s ij) e (vector_in p n i J z) c.cocycle)
 
       -- each class is the same in the limit as one that is carried over, at its own stage
       pub carried_onto_words : (e : ℕ) (z : List (Polynomial p n)) → IsClass p n i I e z → (z' : List (Polynomial p n)) × IsClass p n i J e z' × IsSameClass p n i I e z e (image_of p n i ls e z')
       unfolding IsSameClass moved
       carried_onto_words e z c =
           let b = length_in p n i J in
-          let h = carried_onto (matrices_laws p n) (prime_value p) (prime_positive p) (matrices_power p n) (resolved_read r) (resolved_read s) (lambda_of p n I.differentials J.differentials ls) (lambda_of p n J.differentials I.differentials ms) (identity_read p n r.resolution s.resolution k) (identity_read p n s.resolution r.resolution l) (inside_read s r ji) e (vector_in p n i I z) c.cocycle in
+          let h = carried_onto (matrices_laws p n) (prime_value p) (prime_positive p) (matrices_power p n) (resolved_read r) (resolved_read s) (lambda_of p n I.differentials J.differentials ls) other.0 (identity_read p n r.resolution s.resolution k) other.1 (inside_read s r ji) e (vector_in p n i I z) c.cocycle in
           let y : List (Polynomial p n) = list_of (polynomials p n) b h.0 in
           let q = vector_list_of (polynomials p n) b h.0 in
           let v = mapped (matrices p n) (degree_in p n i J) (degree_in p n i I) (lambda_of p n I.differentials J.differentials ls i) e h.0 in

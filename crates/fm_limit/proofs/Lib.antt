@@ -21,3 +21,7 @@ pub mod ChainWords
 pub mod TwistedResolution
 pub mod SmallIdeals
 pub mod Principal
+pub mod PrincipalFacts
+pub mod SameClass
+pub mod Blocks
+pub mod Annihilators

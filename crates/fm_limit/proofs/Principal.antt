@@ -35,7 +35,7 @@ module _ (p : Prime) (n : ℕ) where
   unfolding HasShape
   one_fits f = (refl, refl, λ j b. let z : zero ≡ j = omega arith in subst (λ j. length (get_or ((f ∷ []) ∷ []) j []) ≡ 1) z refl)
 
-  no_fits : HasShape p n 1 0 (no_columns p n)
+  pub no_fits : HasShape p n 1 0 (no_columns p n)
   unfolding HasShape
   no_fits = (refl, refl, λ j b. absurd (omega arith))
 
@@ -57,11 +57,11 @@ module _ (p : Prime) (n : ℕ) where
       read_injective (polynomials p n) 1 1 (row p n (f ∷ [])) (one_entry p n f) (row_fits p n (f ∷ [])) (one_fits f)
       (single (polynomials_laws p n) (frobenius_twist p n) (read (polynomials p n) 1 1 (row p n (f ∷ []))) (element (polynomials p n) f) (ap (λ X. X zero only zero only) (row_read p n (f ∷ []))) ∙ sym (one_read f))
 
-  same_entries : (A B : PolynomialMatrix p n) → HasShape p n 1 1 A → HasShape p n 1 1 B → read (polynomials p n) 1 1 A ≡ read (polynomials p n) 1 1 B → A ≡ B
+  pub same_entries : (A B : PolynomialMatrix p n) → HasShape p n 1 1 A → HasShape p n 1 1 B → read (polynomials p n) 1 1 A ≡ read (polynomials p n) 1 1 B → A ≡ B
   unfolding HasShape
   same_entries A B a b e = read_injective (polynomials p n) 1 1 A B a b e
 
-  each_element : (e : ℕ) (f : Polynomial p n) → each (polynomials p n) (frobenius_twist p n e) {m = 1} {n = 1} (element (polynomials p n) f) ≡ element (polynomials p n) (frobenius_twist p n e f)
+  pub each_element : (e : ℕ) (f : Polynomial p n) → each (polynomials p n) (frobenius_twist p n e) {m = 1} {n = 1} (element (polynomials p n) f) ≡ element (polynomials p n) (frobenius_twist p n e f)
   unfolding each
   each_element e f = refl
 
@@ -146,13 +146,18 @@ module _ (p : Prime) (n : ℕ) where
     unfolding principal matrix_at
     principal_class e z = record { fits = refl; cocycle = no_rows p n 0 _ _ refl }
 
-    twist_nonzero : (e : ℕ) → ¬ (frobenius_twist p n e f ≡ polynomial_zero p n)
+    pub twist_nonzero : (e : ℕ) → ¬ (frobenius_twist p n e f ≡ polynomial_zero p n)
     twist_nonzero e h = nonzero (twist_one_to_one p n e f (polynomial_zero p n) (h ∙ sym (twist_of_zero p n e)))
 
     -- the twists of f and of f^(p-1)
     twists_next : (e : ℕ) → polynomial_product p n (frobenius_twist p n e f) (frobenius_twist p n e cofactor) ≡ frobenius_twist p n (suc e) f
     twists_next e =
         sym (twist_of_product p n e f cofactor) ∙ ap (frobenius_twist p n e) times_cofactor ∙ twists_compose p n e 1 f ∙ (let q : 1 + e ≡ suc e = omega arith in ap (λ k. frobenius_twist p n k f) q)
+
+    pub cofactor_nonzero : ¬ (cofactor ≡ polynomial_zero p n)
+    unfolding polynomial_product polynomial_zero
+    cofactor_nonzero h =
+        twist_nonzero 1 (sym times_cofactor ∙ ap ((polynomials p n).mul f) h ∙ mul_zero (polynomials_laws p n) f)
 
     times_nonzero : (e : ℕ) → ¬ (frobenius_twist p n e cofactor ≡ polynomial_zero p n)
     unfolding polynomial_product polynomial_zero
@@ -253,7 +258,7 @@ module _ (p : Prime) (n : ℕ) where
 abbrev pub x : Polynomial Two 1
 x = polynomial_term Two 1 1 (1 ∷ [])
 
-x_nonzero : ¬ (x ≡ polynomial_zero Two 1)
+pub x_nonzero : ¬ (x ≡ polynomial_zero Two 1)
 x_nonzero h =
     let a : coefficient Two 1 x (1 ∷ []) ≡ 1 = coefficient_term Two 1 1 (1 ∷ []) refl in
     let b : coefficient Two 1 x (1 ∷ []) ≡ 0 = ap (λ f. coefficient Two 1 f (1 ∷ [])) h ∙ coefficient_zero Two 1 (1 ∷ []) in
@@ -269,12 +274,16 @@ no_double : (b : List ℕ) → ¬ ((1 ∷ []) ≡ tuple_multiple 2 b)
 no_double [] e = one_not_zero (length {A = ℕ} (1 ∷ [])) refl (ap length e)
 no_double (i ∷ b) e = one_not_even (get_or (1 ∷ []) 0 0) i refl (ap (λ k. get_or k 0 0) e)
 
--- the twist of x has no constant term and no term x
-twist_at_zero : coefficient Two 1 (frobenius_twist Two 1 1 x) (0 ∷ []) ≡ 0
-twist_at_zero = twist_at_multiple Two 1 1 x (0 ∷ []) ∙ coefficient_term_elsewhere Two 1 1 (1 ∷ []) (0 ∷ []) (λ e. let h : 0 ≡ 1 = heads e in absurd (omega arith))
+-- x has no constant term
+pub x_at_zero : coefficient Two 1 x (0 ∷ []) ≡ 0
+x_at_zero = coefficient_term_elsewhere Two 1 1 (1 ∷ []) (0 ∷ []) (λ e. let h : 0 ≡ 1 = heads e in absurd (omega arith))
   where
     heads : {i j : ℕ} {a b : List ℕ} → i ∷ a ≡ j ∷ b → i ≡ j
     heads e = cc
+
+-- the twist of x has no constant term and no term x
+twist_at_zero : coefficient Two 1 (frobenius_twist Two 1 1 x) (0 ∷ []) ≡ 0
+twist_at_zero = twist_at_multiple Two 1 1 x (0 ∷ []) ∙ x_at_zero
 
 twist_at_one : coefficient Two 1 (frobenius_twist Two 1 1 x) (1 ∷ []) ≡ 0
 twist_at_one = twist_elsewhere Two 1 1 x (1 ∷ []) no_double

@@ -1,7 +1,8 @@
 -- The finite facts from which verdicts on the limit follow: what deciding and checking establish.
-use Rattle.std.specs.Prelude.{ℕ, zero, suc, ◌+◌, ◌<◌, ◌≤◌, ◌≡◌, ◌↔◌, List, [], length, get_or}
+use Rattle.std.specs.Prelude.{ℕ, zero, suc, ◌+◌, ◌*◌, ◌/◌, ◌%◌, ◌<◌, ◌≤◌, ◌≡◌, ◌↔◌, List, [], length, get_or, map, cond, eqb}
 use Rattle.fm_gfp.specs.declared.prime.Prime.{Prime}
-use Rattle.fm_algebra.specs.Polynomials.{Polynomial}
+use Rattle.fm_algebra.specs.Matrix.{component, entry, table}
+use Rattle.fm_algebra.specs.Polynomials.{Polynomial, polynomials}
 use Rattle.fm_algebra.specs.PolynomialMatrices.{PolynomialMatrix, HasShape, matrix_product, matrix_unit, matrix_scalar, vector_product, matrix_beside, matrix_transpose, matrix_twist, InImage, GeneratesKernel, GeneratesPreimage}
 use Rattle.fm_limit.specs.ResolvedIdeal.{ResolvedIdeal, matrix_at, rank, differential, IsResolved, IsLiftOfIdentityOf}
 
@@ -74,3 +75,24 @@ module _ (p : Prime) (n : ℕ) where
     pub fits : (j : ℕ) → j ≤ k + 1 → HasShape p n K.rows (length (matrix_at p n Cs j).columns) (matrix_at p n Cs j)
     pub first : (v : List (Polynomial p n)) → InImage p n (matrix_at p n Cs 0) v ↔ InImage p n K v
     pub step : (j : ℕ) → j ≤ k → GeneratesPreimage p n (matrix_at p n Cs (suc j)) (matrix_scalar p n f K.rows) (matrix_at p n Cs j)
+
+  -- the unit matrix with g rows, written as one column: column after column
+  unfoldable pub unit_column : ℕ → PolynomialMatrix p n
+  unit_column g = table (polynomials p n) (g * g) 1 (λ i j. cond (eqb (i / g) (i % g)) (polynomials p n).one (polynomials p n).zero)
+
+  -- as many copies of K along the diagonal as K has rows
+  unfoldable pub diagonal_blocks : PolynomialMatrix p n → PolynomialMatrix p n
+  diagonal_blocks K =
+      let g = K.rows in
+      let k = length K.columns in
+      table (polynomials p n) (g * g) (g * k) (λ i j. cond (eqb (i / g) (j / k)) (entry (polynomials p n) K (i % g) (j % k)) (polynomials p n).zero)
+
+  -- P is a row that generates all a with a times the unit matrix in im K, column by column: all a that send the unit matrix, as
+  -- one column, into the image of the blocks of K.
+  pub record IsAnnihilatorRow (K P : PolynomialMatrix p n) : Type 0 where
+    pub fits : HasShape p n 1 (length P.columns) P
+    pub generates : GeneratesPreimage p n P (unit_column K.rows) (diagonal_blocks K)
+
+  -- the first entry of each column
+  unfoldable pub first_entries : PolynomialMatrix p n → List (Polynomial p n)
+  first_entries P = map (λ c. component (polynomials p n) c 0) P.columns

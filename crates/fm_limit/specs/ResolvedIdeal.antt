@@ -69,3 +69,18 @@ module _ (p : Prime) (n : ℕ) where
     pub fits : (j : ℕ) → j < length ls → HasShape p n (rank us j) (rank ds j) (matrix_at ls j)
     pub first : matrix_at ls 0 ≡ matrix_unit p n 1
     pub square : (j : ℕ) → j < i → matrix_product p n (matrix_at us j) (matrix_at ls (suc j)) ≡ matrix_product p n (matrix_at ls j) (matrix_at ds j)
+
+  -- I and J are one ideal, resolved twice through degree i
+  pub record AreOneIdeal (i : ℕ) (I J : ResolvedIdeal p n) : Type 0 where
+    pub first : IsResolved i I
+    pub second : IsResolved i J
+    pub there : LiesIn I.generators J.generators
+    pub back : LiesIn J.generators I.generators
+
+  -- I and I' are one ideal, J and J' are one, all resolved through degree i; ls is a lift of the identity from I to J, and ms one
+  -- from I' to J'
+  pub record AreOneInclusion (i : ℕ) (I J I' J' : ResolvedIdeal p n) (ls ms : List (PolynomialMatrix p n)) : Type 0 where
+    pub inner : AreOneIdeal i I I'
+    pub outer : AreOneIdeal i J J'
+    pub first : IsLiftOfIdentityOf i I.differentials J.differentials ls
+    pub second : IsLiftOfIdentityOf i I'.differentials J'.differentials ms

@@ -1,11 +1,14 @@
 // Worked examples and edge cases: degree 0, the zero ideal, the unit ideal, f = 0, and principal ideals.
-ghost use Rattle.std.specs.Prelude.{ℕ, ◌≡◌, ◌↔◌, List, [], ◌∷◌};
+ghost use Rattle.std.specs.Prelude.{ℕ, ◌-◌, ◌≡◌, ◌↔◌, Bool, false, IsTrue, List, [], ◌∷◌};
+ghost use Rattle.fm_gfp.specs.Primes.{prime_value};
 ghost use Rattle.fm_gfp.specs.declared.prime.Prime.{Prime};
 ghost use Rattle.fm_gfp.specs.declared.prime.Prime.TheVariants.{Two};
 ghost use Rattle.fm_algebra.specs.Polynomials.{Polynomial, polynomial_zero, polynomial_one, polynomial_term, polynomial_product, polynomial_power, frobenius_twist};
 ghost use Rattle.fm_limit.specs.ResolvedIdeal.{ResolvedIdeal, IsResolved};
 ghost use Rattle.fm_limit.specs.Classes.{IsClass, IsCoboundaryAfter, IsZeroClass, IsZeroLimit, VanishesAfterInverting};
-ghost use Rattle.fm_limit.specs.SmallIdeals.{in_degree_zero, principal};
+ghost use Rattle.fm_limit.specs.SmallIdeals.{in_degree_zero, one_entry, principal};
+ghost use Rattle.fm_limit.specs.Facts.{DegreeFacts};
+ghost use Rattle.fm_limit.specs.Verdicts.{Holds, zero_limit};
 
 /// In degree 0 every ideal is resolved by the row of its generators. The limit of the zero ideal is not zero: it is the ring. The limit of the unit ideal is zero.
 pub fn ideals_in_degree_zero()
@@ -20,7 +23,7 @@ pub fn inverting_zero_and_one()
     ensures one { (p : Prime) (n i : ℕ) (I : ResolvedIdeal p n) → VanishesAfterInverting p n i I (polynomial_one p n) ↔ IsZeroLimit p n i I }
 {}
 
-/// For f that is not 0: `(f)` is a resolution of its ideal with the lift `(1), (f^(p-1))`; every polynomial is a class of every stage; and any number of moves makes z of stage e a coboundary exactly if `f^[p^e]` divides z. So the limit is the ring with f inverted, modulo the ring.
+/// For f that is not 0: `(f)` is a resolution of its ideal with the lift `(1), (f^(p-1))`; every polynomial is a class of every stage; and any number of moves makes z of stage e a coboundary exactly if `f^[p^e]` divides z. So the limit is the ring with f inverted, modulo the ring. The facts of this degree hold with coordinates `Z = (1)`, the morphism `(f^(p-1))` and the chain that repeats at once at `(f)`; so the limit is zero exactly if f is a unit.
 pub fn a_principal_ideal_in_degree_one()
     ensures resolved { (p : Prime) (n : ℕ) (f : Polynomial p n) → ¬ (f ≡ polynomial_zero p n) → IsResolved p n 1 (principal p n f) }
     ensures classes { (p : Prime) (n : ℕ) (f : Polynomial p n) → ¬ (f ≡ polynomial_zero p n) → (e : ℕ) (z : Polynomial p n) → IsClass p n 1 (principal p n f) e (z ∷ []) }
@@ -28,10 +31,16 @@ pub fn a_principal_ideal_in_degree_one()
         → (s e : ℕ) (z : Polynomial p n) → IsCoboundaryAfter p n 1 (principal p n f) s e (z ∷ []) ↔ ((y : Polynomial p n) × (polynomial_product p n (frobenius_twist p n e f) y ≡ z)) }
     ensures limit { (p : Prime) (n : ℕ) (f : Polynomial p n) → ¬ (f ≡ polynomial_zero p n)
         → (e : ℕ) (z : Polynomial p n) → IsZeroClass p n 1 (principal p n f) e (z ∷ []) ↔ ((y : Polynomial p n) × (polynomial_product p n (frobenius_twist p n e f) y ≡ z)) }
+    ensures facts { (p : Prime) (n : ℕ) (f : Polynomial p n) → ¬ (f ≡ polynomial_zero p n)
+        → DegreeFacts p n 1 (principal p n f) (one_entry p n (polynomial_one p n)) (one_entry p n (polynomial_power p n (prime_value p - 1) f)) (one_entry p n f ∷ one_entry p n f ∷ []) 0 }
+    ensures verdict { (p : Prime) (n : ℕ) (f : Polynomial p n) → ¬ (f ≡ polynomial_zero p n)
+        → (answer : Bool) → (IsTrue answer ↔ ((y : Polynomial p n) × (polynomial_product p n f y ≡ polynomial_one p n)))
+        → Holds p n (zero_limit 1 (principal p n f) answer 0) }
 {}
 
-/// Over GF(2)[x], in degree 1 of the ideal (x): the class x of stage 1 never becomes a coboundary, and the class `x^2` of stage 1 is one.
+/// Over GF(2)[x], in degree 1 of the ideal (x): the class x of stage 1 never becomes a coboundary, the class `x^2` of stage 1 is one, and the limit is not zero.
 pub fn the_ideal_of_x_over_two()
     ensures never { ¬ IsZeroClass Two 1 1 (principal Two 1 (polynomial_term Two 1 1 (1 ∷ []))) 1 ((polynomial_term Two 1 1 (1 ∷ [])) ∷ []) }
     ensures at_once { IsCoboundaryAfter Two 1 1 (principal Two 1 (polynomial_term Two 1 1 (1 ∷ []))) 0 1 (polynomial_power Two 1 2 (polynomial_term Two 1 1 (1 ∷ [])) ∷ []) }
+    ensures limit { Holds Two 1 (zero_limit 1 (principal Two 1 (polynomial_term Two 1 1 (1 ∷ []))) false 0) }
 {}

@@ -1,4 +1,5 @@
 use Rattle.fm_limit.proofs.Principal.{principal_class, principal_killed, principal_resolved, principal_zero}
+use Rattle.fm_limit.proofs.PrincipalFacts.{principal_facts, principal_verdict}
 use Rattle.fm_limit.proofs.laws.examples.a_principal_ideal_in_degree_one.Goals as goal
 
 pub returns-clause-resolved : goal.returns-clause-resolved
@@ -12,3 +13,9 @@ returns-clause-moves c = principal_killed
 
 pub returns-clause-limit : goal.returns-clause-limit
 returns-clause-limit c = principal_zero
+
+pub returns-clause-facts : goal.returns-clause-facts
+returns-clause-facts c = principal_facts
+
+pub returns-clause-verdict : goal.returns-clause-verdict
+returns-clause-verdict c = principal_verdict

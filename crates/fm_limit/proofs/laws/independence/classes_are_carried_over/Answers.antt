@@ -2,13 +2,13 @@ use Rattle.fm_limit.proofs.IndependenceWords.{carried_class_words, carried_kille
 use Rattle.fm_limit.proofs.laws.independence.classes_are_carried_over.Goals as goal
 
 pub returns-clause-class : goal.returns-clause-class
-returns-clause-class c = λ p n i I J r s ij ji ls ms k l. carried_class_words p n r s k ij
+returns-clause-class c = λ p n i I J h ls k. carried_class_words p n h.first h.second k h.there
 
 pub returns-clause-moves : goal.returns-clause-moves
-returns-clause-moves c = λ p n i I J r s ij ji ls ms k l. carried_killed_words p n r s ij ji k l
+returns-clause-moves c = λ p n i I J h ls k. carried_killed_words p n h.first h.second h.there h.back k
 
 pub returns-clause-zero : goal.returns-clause-zero
-returns-clause-zero c = λ p n i I J r s ij ji ls ms k l. carried_zero_words p n r s ij ji k l
+returns-clause-zero c = λ p n i I J h ls k. carried_zero_words p n h.first h.second h.there h.back k
 
 pub returns-clause-onto : goal.returns-clause-onto
-returns-clause-onto c = λ p n i I J r s ij ji ls ms k l. carried_onto_words p n r s ij ji k l
+returns-clause-onto c = λ p n i I J h ls k. carried_onto_words p n h.first h.second h.there h.back k
