@@ -5,7 +5,7 @@ ghost use Rattle.fm_complete.specs.declared.step.Step.{Step as StepValue};
 ghost use Rattle.fm_complete.specs.Divisions.{AreMembers, division_run, division_value, quotient_terms, quotients_from};
 ghost use Rattle.fm_complete.specs.Runs.{Follows};
 
-use crate::reducing::reduce;
+use crate::starting::reduce;
 use crate::{Division, Step, Stop, Work};
 use fm_poly::{Poly, Ring, Term};
 use fm_vec::Vector;

@@ -5,9 +5,12 @@ pub mod dividing;
 pub mod division;
 pub mod laws;
 pub(crate) mod reducing;
+pub(crate) mod starting;
 pub mod step;
 pub(crate) mod stepping;
 pub mod stop;
+#[cfg(test)]
+mod tests;
 pub mod work;
 
 pub use dividing::divide;

@@ -269,3 +269,16 @@ monic_from r (t ∷ ts) h x e w one below =
     let same : h ≡ t = cc in
     let one_at : (t.coeff * x) % prime_value r.prime ≡ 1 = ap (λ (v : VTerm). (v.coeff * x) % prime_value r.prime) (sym same) ∙ one in
     ap (λ c. scaled r c (t ∷ ts)) (inverse_is r.prime t.coeff x w.0.positive w.0.below below one_at)
+
+-- ---- heads
+pub not_empty : (ts : List VTerm) (t : VTerm) → Some t ≡ head_of ts → ts ≡ [] → ⊥
+not_empty [] t e none = cc
+not_empty (u ∷ ts) t e none = cc
+
+pub have_s_vector : (f g : List VTerm) (t u : VTerm) → Some t ≡ head_of f → Some u ≡ head_of g → t.coeff ≡ 1 → u.coeff ≡ 1 → t.component ≡ u.component → HaveSVector f g
+have_s_vector [] g t u ef eg ct cu c = cc
+have_s_vector (x ∷ f) [] t u ef eg ct cu c = cc
+have_s_vector (x ∷ f) (y ∷ g) t u ef eg ct cu c =
+    let left : t ≡ x = cc in
+    let right : u ≡ y = cc in
+    (ap (λ (v : VTerm). v.coeff) (sym left) ∙ ct, ap (λ (v : VTerm). v.coeff) (sym right) ∙ cu, ap (λ (v : VTerm). v.component) (sym left) ∙ c ∙ ap (λ (v : VTerm). v.component) right)

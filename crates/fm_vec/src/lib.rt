@@ -5,6 +5,8 @@ pub(crate) mod columns;
 pub mod laws;
 pub(crate) mod multiples;
 pub(crate) mod terms;
+#[cfg(test)]
+mod tests;
 pub mod vector;
 pub mod vterm;
 

@@ -10,7 +10,7 @@ use Rattle.fm_complete.specs.Runs.{Follows}
 use Rattle.fm_complete.specs.Trails.{IsTrail, ahead}
 use Rattle.fm_complete.proofs.Trails.{trail_start}
 use Rattle.fm_complete.proofs.Running.{ahead_none, turn_run, turn_trail}
-use Rattle.fm_complete.proofs.reducing.reduce.Goals as goal
+use Rattle.fm_complete.proofs.starting.reduce.Goals as goal
 
 pub reduce_on-requires-clause-trail : goal.reduce_on-requires-clause-trail
 reduce_on-requires-clause-trail c =
