@@ -102,7 +102,7 @@ module _ (r : Ring) (n : ℕ) where
       go (suc j) i place = step_added k 1 j members g h hs s ss (omega arith) place is
 
   -- ---- members
-  member_vector : (members : List (List VTerm)) (m : ℕ) → AreVectors r n members → IsVector r n (member_at members m)
+  pub member_vector : (members : List (List VTerm)) (m : ℕ) → AreVectors r n members → IsVector r n (member_at members m)
   member_vector [] zero w = record { falls = tt; proper = tt; within = tt }
   member_vector [] (suc m) w = record { falls = tt; proper = tt; within = tt }
   member_vector (g ∷ gs) zero w = record { falls = tt; proper = tt; within = tt }
@@ -140,7 +140,7 @@ module _ (r : Ring) (n : ℕ) where
     Left t ts s g =
         IsVector r n (cancelled r (s, g) (t ∷ ts)) × ((k : ℕ) → plus r (times r (term r s.coeff s.mono) (part r k g)) (part r k (cancelled r (s, g) (t ∷ ts))) ≡ part r k (t ∷ ts))
 
-    left_over : (t : VTerm) (ts : List VTerm) (s : Step) (g : List VTerm) → IsFound r members t s g → IsVector r n (t ∷ ts) → Left t ts s g
+    pub left_over : (t : VTerm) (ts : List VTerm) (s : Step) (g : List VTerm) → IsFound r members t s g → IsVector r n (t ∷ ts) → Left t ts s g
     left_over t ts s g f w =
         subst (λ (x : Step). Left t ts x g) (sym f.step)
         (subst (λ y. Left t ts (step_for r s.number f.head t) y) (sym f.is)

@@ -4,3 +4,5 @@ pub mod Trails
 pub mod Running
 pub mod DivisionLaw
 pub mod Principal
+pub mod Quotients
+pub mod BoundedQuotients

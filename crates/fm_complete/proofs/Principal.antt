@@ -90,7 +90,7 @@ module _ (r : Ring) where
       divides a l s = subst (TupleDivides b.mono) s (divides_product a b.mono l)
 
   -- ---- the division by one member
-  one_member : (f : List VTerm) (x : Reduced) (v : List VTerm) → Divided r 1 (f ∷ []) v x → plus r (times r (meaning r (quotient_terms 1 x.steps)) (part r 1 f)) (part r 1 x.rest) ≡ part r 1 v
+  pub one_member : (f : List VTerm) (x : Reduced) (v : List VTerm) → Divided r 1 (f ∷ []) v x → plus r (times r (meaning r (quotient_terms 1 x.steps)) (part r 1 f)) (part r 1 x.rest) ≡ part r 1 v
   unfolding combination
   one_member f x v d = ap (λ y. plus r y (part r 1 x.rest)) (sym (plus_nothing r (times r (meaning r (quotient_terms 1 x.steps)) (part r 1 f)))) ∙ d.whole 1
 

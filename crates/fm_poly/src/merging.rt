@@ -18,7 +18,8 @@ pub(crate) fn merge(
     requires f_canonical { IsCanonical ring f.now }
     requires g_canonical { IsCanonical ring g.now }
     ensures canonical { IfOk result (λ h. IsCanonical ring h.items) }
-    ensures sum { IfOk result (λ h. meaning ring h.items ≡ polynomial_sum ring.prime ring.vars (meaning ring f.now) (meaning ring g.now)) }
+    ensures sum { IfOk result (λ h. meaning ring h.items
+        ≡ polynomial_sum ring.prime ring.vars (meaning ring f.now) (meaning ring g.now)) }
 {
     let mut out = Vec::new(alloc);
     let mut f = f;

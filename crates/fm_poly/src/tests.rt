@@ -9,9 +9,9 @@ use std::alloc::{AllocError, Global};
 use std::test::Fail;
 
 // Terms in x and y: both exponents and the coefficient.
-type Listed = ([u16; 2], u64);
+pub(crate) type Listed = ([u16; 2], u64);
 
-const PLANE: Ring = Ring {
+pub(crate) const PLANE: Ring = Ring {
     prime: Prime::Five,
     vars: 2,
     order: Order::Grevlex,
@@ -30,7 +30,7 @@ fn listed(alloc: Global, list: &[Listed]) -> Result<Vec<Term>, AllocError>
     Ok(terms)
 }
 
-fn poly(alloc: Global, list: &[Listed]) -> Result<Poly, AllocError>
+pub(crate) fn poly(alloc: Global, list: &[Listed]) -> Result<Poly, AllocError>
     ensures { IfOk result (λ f. f.ring ≡ PLANE) }
 {
     let terms = listed(alloc, list)?;
@@ -41,6 +41,11 @@ fn poly(alloc: Global, list: &[Listed]) -> Result<Poly, AllocError>
 fn shows(alloc: Global, f: &Poly, want: &[Listed]) -> Result<bool, AllocError> {
     let terms = listed(alloc, want)?;
     Ok(f.terms() == terms.as_slice())
+}
+
+fn rebuilt(alloc: Global, f: &Poly) -> Result<Poly, AllocError> {
+    let terms = Vec::from_slice(alloc, f.terms())?;
+    Ok(Poly::from_canonical(f.ring(), terms))
 }
 
 fn sum_is(alloc: Global, f: &[Listed], g: &[Listed], want: &[Listed]) -> Result<bool, AllocError> {
@@ -90,6 +95,7 @@ fn terms_in_any_order_are_summed(rt: HostRuntime) -> Result<(), Fail> {
     let want = [([0, 5], 1), ([1, 0], 2), ([0, 0], 2)];
     assert!(rt; shows(alloc, &f, &want)?);
     assert!(rt; shows(alloc, &f.copy(alloc)?, &want)?);
+    assert!(rt; shows(alloc, &rebuilt(alloc, &f)?, &want)?);
     assert_eq!(rt; f.ring(), PLANE);
     assert!(rt; shows(alloc, &poly(alloc, &[([1, 1], 2), ([1, 1], 3)])?, &[])?);
     assert!(rt; shows(alloc, &Poly::zero(alloc, PLANE), &[])?);

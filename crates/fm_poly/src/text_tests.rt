@@ -1,21 +1,10 @@
 // The printed form against texts written by hand, and its reader.
-ghost use Rattle.std.specs.Prelude.{All, IfOk, [], codes, length, map, string_bytes, ◌∷◌, ◌≡◌};
-ghost use Rattle.fm_poly.specs.Polys.{IsTermOf};
+ghost use Rattle.std.specs.Prelude.{IfOk, [], codes, length, map, string_bytes, ◌∷◌, ◌≡◌};
 
-use crate::{Poly, Ring, Term, read_printed};
-use fm_gfp::Prime;
-use fm_mono::{Mono, Order};
+use crate::read_printed;
+use crate::tests::{Listed, PLANE, poly};
 use std::alloc::{AllocError, Global};
 use std::test::Fail;
-
-// Terms in x and y1: both exponents and the coefficient.
-type Listed = ([u16; 2], u64);
-
-const PLANE: Ring = Ring {
-    prime: Prime::Five,
-    vars: 2,
-    order: Order::Grevlex,
-};
 
 fn names(alloc: Global) -> Result<Vec<String>, AllocError>
     ensures bytes { IfOk result (λ v. map string_bytes v.items ≡ codes "x" ∷ codes "y1" ∷ []) }
@@ -27,27 +16,6 @@ fn names(alloc: Global) -> Result<Vec<String>, AllocError>
     names.push(x)?;
     names.push(y)?;
     Ok(names)
-}
-
-fn listed(alloc: Global, list: &[Listed]) -> Result<Vec<Term>, AllocError>
-    ensures { IfOk result (λ v. All (IsTermOf PLANE) v.items) }
-{
-    let mut terms = Vec::new(alloc);
-    for t in list {
-        terms.push(Term {
-            mono: Mono::of(&t.0),
-            coeff: PLANE.prime.element(t.1),
-        })?;
-    }
-    Ok(terms)
-}
-
-fn poly(alloc: Global, list: &[Listed]) -> Result<Poly, AllocError>
-    ensures { IfOk result (λ f. f.ring ≡ PLANE) }
-{
-    let terms = listed(alloc, list)?;
-    let f = Poly::from_terms(alloc, PLANE, &terms)?;
-    Ok(f)
 }
 
 // The text is what is printed of these terms, and is read as them.

@@ -1,6 +1,5 @@
 -- The end of a plan from the runs of its tasks.
 use Rattle.std.proofs.Common.{IfOk, OnOk, [], ◌∷◌, ◌≡◌, ◌≢◌, ℕ, List, Bool, Result, Ok, Err, refl, sym, ap, ◌∙◌}
-use Rattle.fm_poly.specs.Polys.{PolyValue}
 use Rattle.fm_vec.specs.Vectors.{VectorValue, head_of}
 use Rattle.std.specs.Prelude.{Option, is_some, not, true, false}
 use Rattle.fm_vec.specs.declared.vterm.VTerm.{VTerm}
@@ -10,7 +9,6 @@ use Rattle.fm_complete.specs.declared.stop.Stop.TheVariants.{Budget, Exponent, M
 use Rattle.fm_complete.specs.declared.division.Division.{Division}
 use Rattle.fm_complete.specs.Divisions.{DivisionValue, division_value, AreMembers}
 use Rattle.fm_complete.specs.Runs.{Ended, Follows}
-use Rattle.fm_principal.specs.declared.task.Task.{Task}
 use Rattle.fm_principal.specs.declared.task.Task.TheVariants.{Lift, Stage}
 use Rattle.std.specs.declared.alloc.AllocError.{AllocError}
 use Rattle.fm_principal.specs.declared.class_end.ClassEnd.{ClassEnd}

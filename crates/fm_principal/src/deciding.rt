@@ -18,7 +18,14 @@ use std::alloc::{AllocError, Global};
 /// Decides the class (e, z) of the ideal that one nonzero polynomial generates: whether it is zero in the limit.
 ///
 /// `generator` and `vector` have one entry each.
-pub fn decide_class(alloc: Global, ring: Ring, generator: &[Poly], stage: u8, vector: &[Poly], budget: u32) -> Result<ClassEnd, AllocError>
+pub fn decide_class(
+    alloc: Global,
+    ring: Ring,
+    generator: &[Poly],
+    stage: u8,
+    vector: &[Poly],
+    budget: u32,
+) -> Result<ClassEnd, AllocError>
     requires generator { AreOver ring generator.now }
     requires vector { AreOver ring vector.now }
     requires nonzero { (column_vector ring generator.now).terms ≢ [] }
@@ -34,7 +41,10 @@ pub fn decide_class(alloc: Global, ring: Ring, generator: &[Poly], stage: u8, ve
         Err(stop) => return stopped(Task::Lift, stop),
     };
     match test(alloc, &f, stage, &z, &mut work) {
-        Ok(division) => Ok(ClassEnd::Answered { lift, is_zero: division.rest.head().is_none() }),
+        Ok(division) => Ok(ClassEnd::Answered {
+            lift,
+            is_zero: division.rest.head().is_none(),
+        }),
         Err(stop) => stopped(Task::Stage, stop),
     }
 }

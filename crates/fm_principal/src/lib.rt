@@ -4,7 +4,10 @@
 
 pub mod class_end;
 pub mod deciding;
+pub mod laws;
 pub mod task;
+#[cfg(test)]
+mod tests;
 
 pub use class_end::ClassEnd;
 pub use deciding::decide_class;

@@ -1,9 +1,9 @@
 -- Texts with more parts than a factor has.
-use Rattle.std.proofs.Common.{◌≡◌, List, [], ◌∷◌, ◌∙◌, Option, Some, None, map, ap, sym, refl}
+use Rattle.std.proofs.Common.{◌≡◌, List, ◌∷◌, ◌∙◌, Option, Some, None, map, ap, sym, refl}
 use Rattle.fm_words.specs.declared.mark.Mark.TheVariants.{Caret}
 use Rattle.fm_words.specs.Parts.{Bytes, parts}
 use Rattle.fm_words.proofs.Cuts.{first_of_parts}
-use Rattle.fm_problem.specs.Factors.{Factor, factor_of, factor_of_words, one_word}
+use Rattle.fm_problem.specs.Factors.{factor_of, factor_of_words, one_word}
 
 three : (a b c : Option Bytes) (rest : List (Option Bytes)) → factor_of_words (a ∷ b ∷ c ∷ rest) ≡ None
 three None b c rest = refl

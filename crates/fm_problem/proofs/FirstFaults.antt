@@ -1,6 +1,6 @@
 -- What follows from a reading without fault.
-use Rattle.std.proofs.Common.{◌≡◌, ◌+◌, ◌<◌, ◌≤◌, ℕ, suc, Bool, true, false, if◌then◌else◌, List, [], ◌∷◌, ◌++◌, length, Option, Some, None, Result, Ok, Err, refl, sym, ◌∙◌, ap, subst, arith}
-use Rattle.fm_problem.specs.Steps.{◌>>=◌, steps, or_fault}
+use Rattle.std.proofs.Common.{◌≡◌, Bool, true, false, if◌then◌else◌, List, [], ◌∷◌, Result, Ok, Err, refl, subst}
+use Rattle.fm_problem.specs.Steps.{◌>>=◌, steps}
 
 pub no_fault : {A F : Type 0} (k : F) (x : A) → Err k ≡ Ok x → ⊥
 no_fault k x e = cc

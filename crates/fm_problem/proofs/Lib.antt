@@ -10,3 +10,5 @@ pub mod SoundPolynomials
 pub mod SoundNames
 pub mod SoundProblems
 pub mod OneReading
+pub mod FurtherLines
+pub mod PrintedNames

@@ -1,5 +1,5 @@
 -- The names in statements are names.
-use Rattle.std.proofs.Common.{◌≡◌, ◌<◌, ℕ, Bool, true, false, ◌&&◌, if◌then◌else◌, List, [], ◌∷◌, length, Option, Some, None, option_map, refl, sym, ap, subst, arith}
+use Rattle.std.proofs.Common.{◌≡◌, ◌<◌, ℕ, Bool, true, false, ◌&&◌, if◌then◌else◌, List, [], ◌∷◌, length, Option, Some, None, option_map, refl, sym, subst, arith}
 use Rattle.std.specs.List.{list_all}
 use Rattle.fm_mono.specs.declared.order.Order.{Order}
 use Rattle.fm_words.specs.declared.mark.Mark.TheVariants.{Comma, Equals, Open, Close}

@@ -1,11 +1,11 @@
 -- The variables of a ring line.
-use Rattle.std.proofs.Common.{◌≡◌, ◌+◌, ◌<◌, ◌≤◌, ℕ, Bool, true, false, List, [], ◌∷◌, ◌++◌, ◌&&◌, length, is_some, nat_lt, nat_le, Option, Result, Ok, Err, refl, sym, ◌∙◌, ap, subst, arith, length-append}
+use Rattle.std.proofs.Common.{◌≡◌, ◌+◌, ◌<◌, ◌≤◌, true, false, List, [], ◌∷◌, ◌++◌, ◌&&◌, length, is_some, nat_lt, nat_le, Ok, sym, ◌∙◌, ap, arith, length-append}
 use Rattle.std.proofs.lemmas.Bool.{ltb-true}
 use Rattle.fm_words.specs.Parts.{Bytes}
 use Rattle.fm_problem.specs.declared.fault_kind.FaultKind.TheVariants.{Repeated, Limit}
 use Rattle.fm_problem.specs.declared.limits.TheConstants.{VARIABLES, NAME_BYTES}
 use Rattle.fm_problem.specs.Problems.{plus_name}
-use Rattle.fm_problem.specs.Steps.{◌>>=◌, steps, place}
+use Rattle.fm_problem.specs.Steps.{steps, place}
 use Rattle.fm_problem.proofs.AsciiNames.{both}
 use Rattle.fm_problem.proofs.FirstFaults.{same_ok, first_read, passed, not_failed}
 

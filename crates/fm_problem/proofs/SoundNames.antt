@@ -1,5 +1,5 @@
 -- Names that are read are names, and no name stands twice.
-use Rattle.std.proofs.Common.{◌≡◌, ◌≢◌, ◌<◌, ◌≤◌, ◌+◌, ℕ, zero, suc, Bool, true, false, ◌&&◌, if◌then◌else◌, List, [], ◌∷◌, ◌++◌, All, get_or, length, is_some, nat_eq, nat_lt, nat_le, Option, Some, None, Result, Ok, Err, refl, sym, ◌∙◌, ap, subst, arith}
+use Rattle.std.proofs.Common.{◌≡◌, ◌≢◌, ◌<◌, ◌+◌, ℕ, zero, suc, Bool, true, false, if◌then◌else◌, List, [], ◌∷◌, ◌++◌, All, get_or, length, is_some, nat_eq, nat_lt, nat_le, Option, Some, None, Ok, refl, sym, ◌∙◌, ap, subst, arith}
 use Rattle.std.specs.List.{list_all}
 use Rattle.std.proofs.lemmas.Bool.{true≢false, leb-true}
 use Rattle.std.proofs.lemmas.Bool.Decides.{nat_tests}
@@ -9,7 +9,7 @@ use Rattle.fm_words.specs.Words.{is_name, same_bytes}
 use Rattle.fm_problem.specs.declared.limits.TheConstants.{VARIABLES, NAME_BYTES}
 use Rattle.fm_problem.specs.Problems.{plus_name}
 use Rattle.fm_problem.specs.Sound.{IsShortName, IsAbsent, AreApart}
-use Rattle.fm_problem.specs.Steps.{◌>>=◌, steps, place}
+use Rattle.fm_problem.specs.Steps.{steps, place}
 use Rattle.fm_problem.proofs.AsciiNames.{both}
 use Rattle.fm_problem.proofs.FirstFaults.{same_ok, first_read}
 use Rattle.fm_problem.proofs.NamesRead.{name_added}

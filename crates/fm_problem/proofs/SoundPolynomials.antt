@@ -1,24 +1,22 @@
 -- Polynomials that are read are polynomials of their ring.
-use Rattle.std.proofs.Common.{◌≡◌, ◌<◌, ◌≤◌, ◌+◌, ◌*◌, ◌%◌, ◌-◌, ◌^◌, ℕ, zero, suc, Bool, true, false, if◌then◌else◌, List, [], ◌∷◌, ◌++◌, All, length, replicate, map, slice_index, slice_set, nat_lt, nat_le, Option, Some, None, Result, Ok, Err, refl, sym, ◌∙◌, ap, subst, arith}
+use Rattle.std.proofs.Common.{◌≡◌, ◌<◌, ◌+◌, ◌*◌, ◌%◌, ◌-◌, ◌^◌, ℕ, zero, suc, List, [], ◌∷◌, ◌++◌, All, length, slice_index, slice_set, nat_lt, nat_le, Option, Some, None, Ok, refl, sym, ◌∙◌, ap, subst, arith}
 use Rattle.std.proofs.lemmas.Nat.{mod_below}
 use Rattle.std.proofs.lemmas.List.{length-set, length-replicate}
 use Rattle.std.proofs.lemmas.List.Elements.{All-append}
 use Rattle.fm_gfp.specs.Primes.{prime_value}
 use Rattle.fm_gfp.specs.declared.prime.Prime.{Prime}
 use Rattle.fm_gfp.proofs.Residues.{prime_above_one, prime_positive}
-use Rattle.fm_poly.specs.declared.ring.Ring.{Ring}
 use Rattle.fm_poly.specs.declared.term.Term.{Term}
-use Rattle.fm_poly.specs.Polys.{PolyValue, IsTermOf, IsCanonical}
+use Rattle.fm_poly.specs.Polys.{PolyValue, IsTermOf}
 use Rattle.fm_words.specs.declared.mark.Mark.TheVariants.{Star}
 use Rattle.fm_words.specs.Parts.{Bytes, parts}
-use Rattle.fm_problem.specs.declared.fault_kind.FaultKind.{FaultKind}
 use Rattle.fm_problem.specs.declared.fault_kind.FaultKind.TheVariants.{Syntax, UnknownName, Limit}
 use Rattle.fm_problem.specs.declared.sign.Sign.{Sign}
 use Rattle.fm_problem.specs.declared.sign.Sign.TheVariants.{Plus, Minus}
 use Rattle.fm_problem.specs.Factors.{Factor, Number, Power, SignedText, factor_of, terms_of}
-use Rattle.fm_problem.specs.Steps.{◌>>=◌, steps, place}
+use Rattle.fm_problem.specs.Steps.{place}
 use Rattle.fm_problem.specs.SumOfTerms.{polynomial_of_terms}
-use Rattle.fm_problem.specs.Polynomials.{Rules, term_one, raised, times_factor, times_factors, unsigned_term, signed_coefficient, signed_term, plus_term, written_terms, polynomial_in}
+use Rattle.fm_problem.specs.Polynomials.{Rules, term_one, raised, times_factor, unsigned_term, signed_coefficient, signed_term, plus_term, written_terms, polynomial_in}
 use Rattle.fm_problem.specs.Sound.{IsPolynomialOf}
 use Rattle.fm_problem.proofs.FirstFaults.{no_fault, same_ok, first_read, steps_keep, passed}
 use Rattle.fm_problem.proofs.TermSums.{sum_canonical}

@@ -1,6 +1,5 @@
 -- Problems that are read are sound.
-use Rattle.std.proofs.Common.{◌≡◌, ◌≢◌, ◌<◌, ◌≤◌, ◌+◌, ℕ, zero, suc, Bool, true, false, ◌&&◌, if◌then◌else◌, List, [], ◌∷◌, ◌++◌, All, length, map, is_some, nat_eq, nat_lt, nat_le, slice_get, Option, Some, None, Result, Ok, Err, refl, sym, ◌∙◌, ap, subst, arith, length-append}
-use Rattle.std.specs.List.{list_all}
+use Rattle.std.proofs.Common.{◌≡◌, ◌≢◌, ◌<◌, ◌≤◌, ◌+◌, ℕ, zero, suc, true, false, ◌&&◌, if◌then◌else◌, List, [], ◌∷◌, ◌++◌, All, length, is_some, nat_eq, nat_lt, nat_le, slice_get, Option, Some, None, Result, Ok, Err, refl, sym, ◌∙◌, ap, subst, arith, length-append}
 use Rattle.std.proofs.lemmas.Bool.{leb-true, ltb-true}
 use Rattle.std.proofs.lemmas.List.{length-map, map-append}
 use Rattle.fm_gfp.specs.declared.prime.Prime.{Prime}
@@ -14,18 +13,17 @@ use Rattle.fm_words.specs.Words.{is_name}
 use Rattle.fm_words.specs.Lines.{NumberedLine, lines_of, end_of}
 use Rattle.fm_problem.specs.declared.fault_kind.FaultKind.{FaultKind}
 use Rattle.fm_problem.specs.declared.fault_kind.FaultKind.TheVariants.{Syntax, UnknownName, Repeated, Range, NotPrime, Limit, NotBuilt}
-use Rattle.fm_problem.specs.declared.limits.TheConstants.{VARIABLES, NAME_BYTES, IDEALS, GENERATORS, QUERIES, STAGE, WRITTEN_EXPONENT}
+use Rattle.fm_problem.specs.declared.limits.TheConstants.{NAME_BYTES, IDEALS, GENERATORS, QUERIES, STAGE}
 use Rattle.fm_problem.specs.declared.keyword.Question.{Question}
 use Rattle.fm_problem.specs.declared.keyword.Question.TheVariants.{Zero, Root, Support, Resolution, Ext}
 use Rattle.fm_problem.specs.declared.problem.Problem.{Problem}
 use Rattle.fm_problem.specs.declared.ideal.Ideal.{Ideal}
 use Rattle.fm_problem.specs.declared.query.Query.{Query}
 use Rattle.fm_problem.specs.declared.query.Query as queries
-use Rattle.fm_problem.specs.Faults.{Fault}
 use Rattle.fm_problem.specs.Polynomials.{Rules, polynomial_in}
 use Rattle.fm_problem.specs.Statements.{Statement, RingLine, OrderLine, IdealLine, ModuleLine, ClassLine, InvertLine, MapLine, MemberLine, statement_of}
-use Rattle.fm_problem.specs.Problems.{IsBounded, prime_of, plus_name, bare, ring_of, order_in, with_order, rules_of, Generators, unless_empty, unless_zero, plus_generator, generators_in, ideal_names, plus_ideal, with_ideal, degree_in, ideal_in, stage_in, plus_entry, vector_in, module_query, asked, is_principal, is_built, query_in, plus_query, with_query, with_line, at_line, plus_line, after_second, after_ring, from_lines, problem_of, query_of_statement, query_of}
-use Rattle.fm_problem.specs.Sound.{IsPolynomialOf, IsShortName, IsAbsent, AreApart, IsIdealOf, IsQueryOf, IsProblem}
+use Rattle.fm_problem.specs.Problems.{prime_of, plus_name, bare, ring_of, order_in, with_order, rules_of, Generators, unless_empty, unless_zero, plus_generator, generators_in, ideal_names, plus_ideal, with_ideal, degree_in, ideal_in, stage_in, plus_entry, vector_in, module_query, asked, is_principal, is_built, query_in, plus_query, with_query, with_line, at_line, plus_line, after_second, after_ring, from_lines, problem_of, query_of_statement, query_of}
+use Rattle.fm_problem.specs.Sound.{IsPolynomialOf, IsShortName, AreApart, IsIdealOf, IsQueryOf, IsProblem}
 use Rattle.fm_problem.specs.Steps.{◌>>=◌, steps, or_fault, place}
 use Rattle.fm_problem.proofs.AsciiNames.{both}
 use Rattle.fm_problem.proofs.FirstFaults.{no_fault, same_ok, first_read, steps_keep, passed, not_failed}

@@ -1,8 +1,8 @@
 -- A text is cut into terms at the first sign.
-use Rattle.std.proofs.Common.{◌≡◌, ℕ, zero, suc, ◌+◌, ◌-◌, ◌<◌, ◌≤◌, List, [], ◌∷◌, Option, Some, None, get_or, take, drop, length, refl, sym, ◌∙◌, ap, arith, add-one}
+use Rattle.std.proofs.Common.{◌≡◌, ℕ, zero, suc, ◌+◌, ◌-◌, ◌<◌, ◌≤◌, List, [], ◌∷◌, Some, None, get_or, take, drop, length, refl, sym, ◌∙◌, ap, arith, add-one}
 use Rattle.std.proofs.lemmas.List.{take_rest}
 use Rattle.fm_problem.specs.declared.sign.Sign.{Sign}
-use Rattle.fm_problem.specs.Factors.{SignedText, sign_of_byte, signed}
+use Rattle.fm_problem.specs.Factors.{sign_of_byte, signed}
 
 cut_at : (s new : Sign) (xs : List ℕ) (i : ℕ) → i < length xs → ((k : ℕ) → k < i → sign_of_byte (get_or xs k 0) ≡ None) → sign_of_byte (get_or xs i 0) ≡ Some new
     → signed s xs ≡ record { sign = s; text = take i xs } ∷ signed new (drop (suc i) xs)

@@ -19,7 +19,7 @@ use Rattle.fm_algebra.proofs.TermWords.{of_swap, of_drop}
 use Rattle.fm_poly.specs.declared.ring.Ring.{Ring}
 use Rattle.fm_poly.specs.declared.term.Term.{Term}
 use Rattle.fm_poly.specs.Polys.{PolyValue, pairs, meaning, IsTermOf, IsCanonical}
-use Rattle.fm_poly.specs.Steps.{kept, like_sum}
+use Rattle.fm_poly.specs.Steps.{like_sum}
 use Rattle.fm_poly.proofs.OrderedTerms.{Below, Falls, Listed, below_trans, listed_append, meaning_append, meaning_cons, canonical_empty}
 use Rattle.fm_poly.proofs.MergeSteps.{meaning_like, canonical_kept}
 use Rattle.fm_poly.proofs.KeptTerms.{lists_unique}

@@ -1,5 +1,5 @@
 -- The polynomials of certificates: no blanks, and form before exponents.
-use Rattle.std.specs.Prelude.{ℕ, ◌^◌, Bool, true, false, ◌&&◌, not, if◌then◌else◌, nat_lt, List, Option, Some, None, is_some, Result, Ok, Err}
+use Rattle.std.specs.Prelude.{◌^◌, Bool, false, ◌&&◌, not, if◌then◌else◌, nat_lt, List, Option, Some, None, is_some, Result, Ok, Err}
 use Rattle.std.specs.List.{list_all, list_any}
 use Rattle.fm_mono.specs.declared.exponent.TheConstants.{EXPONENT_BOUND}
 use Rattle.fm_poly.specs.Polys.{PolyValue}
@@ -11,7 +11,7 @@ use Rattle.fm_problem.specs.declared.fault_kind.FaultKind.{FaultKind}
 use Rattle.fm_problem.specs.declared.poly_fault.PolyFault.{PolyFault}
 use Rattle.fm_problem.specs.declared.poly_fault.PolyFault.TheVariants.{Form, Exponent}
 use Rattle.fm_problem.specs.Factors.{Factor, Number, Power, factor_of, terms_of}
-use Rattle.fm_problem.specs.Polynomials.{Rules, written_terms}
+use Rattle.fm_problem.specs.Polynomials.{written_terms}
 use Rattle.fm_problem.specs.Steps.{place}
 use Rattle.fm_problem.specs.SumOfTerms.{polynomial_of_terms}
 

@@ -1,5 +1,5 @@
 -- The form of polynomials: signs cut a text into terms, and stars cut a term into factors.
-use Rattle.std.specs.Prelude.{ℕ, Bool, true, false, ◌&&◌, if◌then◌else◌, nat_eq, List, [], ◌∷◌, map, Option, Some, None, option_map, is_some}
+use Rattle.std.specs.Prelude.{ℕ, Bool, ◌&&◌, if◌then◌else◌, nat_eq, List, [], ◌∷◌, map, Option, Some, None, is_some}
 use Rattle.std.specs.List.{list_all}
 use Rattle.fm_words.specs.declared.mark.Mark.TheVariants.{Blank, Comma, Star, Caret}
 use Rattle.fm_words.specs.Parts.{Bytes, is_mark, parts, only}

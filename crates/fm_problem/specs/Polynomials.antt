@@ -1,14 +1,12 @@
 -- Which polynomial a text spells: the sum of its terms, with numbers modulo p and exponents added.
-use Rattle.std.specs.Prelude.{ℕ, ◌+◌, ◌-◌, ◌*◌, ◌%◌, ◌^◌, Bool, true, false, ◌&&◌, if◌then◌else◌, nat_eq, nat_le, nat_lt, List, [], ◌∷◌, ◌++◌, map, length, replicate, slice_index, slice_set, Option, Some, None, Result, Ok, Err}
-use Rattle.std.specs.List.{list_all}
+use Rattle.std.specs.Prelude.{ℕ, ◌+◌, ◌-◌, ◌*◌, ◌%◌, ◌^◌, if◌then◌else◌, nat_le, nat_lt, List, [], ◌∷◌, ◌++◌, length, replicate, slice_index, slice_set, Option, Some, None, Result, Ok, Err}
 use Rattle.fm_gfp.specs.Primes.{prime_value}
 use Rattle.fm_gfp.specs.declared.prime.Prime.{Prime}
-use Rattle.fm_mono.specs.declared.exponent.TheConstants.{EXPONENT_BOUND}
 use Rattle.fm_poly.specs.Polys.{PolyValue}
 use Rattle.fm_poly.specs.declared.ring.Ring.{Ring}
 use Rattle.fm_poly.specs.declared.term.Term.{Term}
-use Rattle.fm_words.specs.declared.mark.Mark.TheVariants.{Blank, Star}
-use Rattle.fm_words.specs.Parts.{Bytes, is_mark, parts}
+use Rattle.fm_words.specs.declared.mark.Mark.TheVariants.{Star}
+use Rattle.fm_words.specs.Parts.{Bytes, parts}
 use Rattle.fm_problem.specs.declared.fault_kind.FaultKind.{FaultKind}
 use Rattle.fm_problem.specs.declared.fault_kind.FaultKind.TheVariants.{Syntax, UnknownName, Limit}
 use Rattle.fm_problem.specs.declared.sign.Sign.{Sign}

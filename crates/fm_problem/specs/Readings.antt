@@ -1,5 +1,5 @@
 -- What the readers give.
-use Rattle.std.specs.Prelude.{◌≡◌, ℕ, Result, Ok, Err}
+use Rattle.std.specs.Prelude.{◌≡◌, Result, Ok, Err}
 use Rattle.fm_poly.specs.Polys.{PolyValue}
 use Rattle.fm_problem.specs.declared.problem_error.ProblemError.{ProblemError}
 use Rattle.fm_problem.specs.declared.problem_error.ProblemError as errors

@@ -1,10 +1,10 @@
 -- Sound problems: what holds of every problem that is read.
-use Rattle.std.specs.Prelude.{◌≡◌, ◌≢◌, ◌≤◌, ◌<◌, ℕ, true, List, [], ◌∷◌, All, length, map}
+use Rattle.std.specs.Prelude.{◌≡◌, ◌≢◌, ◌≤◌, ◌<◌, true, List, [], ◌∷◌, All, length}
 use Rattle.fm_poly.specs.declared.ring.Ring.{Ring}
 use Rattle.fm_poly.specs.Polys.{PolyValue, IsCanonical}
 use Rattle.fm_words.specs.Parts.{Bytes}
 use Rattle.fm_words.specs.Words.{is_name}
-use Rattle.fm_problem.specs.declared.limits.TheConstants.{VARIABLES, NAME_BYTES, IDEALS, GENERATORS, QUERIES, STAGE}
+use Rattle.fm_problem.specs.declared.limits.TheConstants.{NAME_BYTES, GENERATORS, QUERIES, STAGE}
 use Rattle.fm_problem.specs.declared.problem.Problem.{Problem}
 use Rattle.fm_problem.specs.declared.ideal.Ideal.{Ideal}
 use Rattle.fm_problem.specs.declared.query.Query.{Query}

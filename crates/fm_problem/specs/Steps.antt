@@ -1,5 +1,5 @@
 -- Readings that may have a fault: the first fault counts.
-use Rattle.std.specs.Prelude.{ℕ, ◌+◌, Bool, true, false, ◌&&◌, if◌then◌else◌, List, [], ◌∷◌, Option, Some, None, Result, Ok, Err}
+use Rattle.std.specs.Prelude.{ℕ, ◌+◌, if◌then◌else◌, List, [], ◌∷◌, Option, Some, None, Result, Ok, Err}
 use Rattle.fm_words.specs.Words.{same_bytes}
 
 infixl 10 ◌>>=◌

@@ -1,11 +1,10 @@
 -- The sum of written terms, as the polynomial that the program keeps.
-use Rattle.std.specs.Prelude.{ℕ, ◌+◌, ◌%◌, ◌==◌, ◌++◌, if◌then◌else◌, List, [], ◌∷◌}
+use Rattle.std.specs.Prelude.{◌==◌, ◌++◌, if◌then◌else◌, List, [], ◌∷◌}
 use Rattle.std.specs.declared.cmp.Ordering.{Ordering}
 use Rattle.std.specs.declared.cmp.Ordering.TheVariants.{Less, Equal, Greater}
-use Rattle.fm_gfp.specs.Primes.{prime_value}
 use Rattle.fm_mono.specs.Orders.{monomial_cmp}
 use Rattle.fm_poly.specs.Polys.{PolyValue}
-use Rattle.fm_poly.specs.Steps.{kept, like_sum}
+use Rattle.fm_poly.specs.Steps.{like_sum}
 use Rattle.fm_poly.specs.declared.ring.Ring.{Ring}
 use Rattle.fm_poly.specs.declared.term.Term.{Term}
 

@@ -1,5 +1,5 @@
 -- What the reader's values mean.
-use Rattle.std.specs.Prelude.{◌≡◌, ◌≤◌, length, ℕ, List, codes, Result, Ok, Err, map, string_bytes}
+use Rattle.std.specs.Prelude.{◌≡◌, ◌≤◌, length, ℕ, Result, Ok, Err, map, string_bytes}
 use Rattle.fm_words.specs.declared.mark.Mark.TheVariants.{Comma}
 use Rattle.fm_words.specs.Parts.{parts}
 use Rattle.fm_words.specs.Words.{words, value}
@@ -9,7 +9,6 @@ use Rattle.fm_problem.specs.declared.line_error.LineError.{LineError}
 use Rattle.fm_problem.specs.declared.line_error.LineError.TheVariants.{Fault, Memory}
 use Rattle.fm_problem.specs.declared.factors.FactorText.{FactorText}
 use Rattle.fm_problem.specs.declared.factors.FactorText.TheVariants.{Number, Variable, Power}
-use Rattle.fm_problem.specs.declared.terms.TermText.{TermText}
 use Rattle.fm_problem.specs.declared.rules.Rules.{Rules}
 use Rattle.fm_problem.specs.declared.statements.StatementText.{StatementText}
 use Rattle.fm_problem.specs.declared.statements.StatementText as texts

@@ -1,8 +1,10 @@
 // Laws of problem texts.
-ghost use Rattle.std.specs.Prelude.{All, Err, List, Ok, ℕ, ◌⊎◌, ◌≡◌};
+ghost use Rattle.std.specs.Prelude.{All, Err, List, Ok, ℕ, ◌++◌, ◌<◌, ◌∷◌, ◌⊎◌, ◌≡◌};
 ghost use Rattle.fm_poly.specs.Polys.{IsCanonical, IsTermOf, meaning};
+ghost use Rattle.fm_poly.specs.Texts.{AreNames};
 ghost use Rattle.fm_poly.specs.declared.ring.Ring.{Ring};
 ghost use Rattle.fm_poly.specs.declared.term.Term.{Term};
+ghost use Rattle.fm_words.specs.Lines.{end_of};
 ghost use Rattle.fm_words.specs.Parts.{Bytes};
 ghost use Rattle.fm_problem.specs.Faults.{Fault};
 ghost use Rattle.fm_problem.specs.Problems.{problem_of, query_of};
@@ -19,11 +21,18 @@ pub fn a_text_has_one_reading_or_one_first_fault()
     ensures one_fault { (text : Bytes) (f g : Fault) → problem_of text ≡ Err f → problem_of text ≡ Err g → f ≡ g }
 {}
 
+/// The first fault of a line stands whatever lines follow. So the lines before any place of a problem text, from the ring
+/// line on, are a problem text.
+pub fn a_first_fault_stands_whatever_follows()
+    ensures { (front back : Bytes) (f : Fault) → problem_of front ≡ Err f → f.line < end_of front → problem_of (front ++ 10 ∷ back) ≡ Err f }
+{}
+
 /// A problem that a text says is within the limits, no name of it stands twice in one list, its polynomials are of its
 /// ring, its generators aren't zero, and its ideal numbers exist.
 pub fn problems_of_texts_are_sound()
     ensures problem { (text : Bytes) (q : Problem) → problem_of text ≡ Ok q → IsProblem q }
     ensures query { (q : Problem) (line : Bytes) (z : Query) → IsProblem q → query_of q line ≡ Ok z → IsQueryOf q z }
+    ensures names { (q : Problem) → IsProblem q → AreNames q.vars }
 {}
 
 /// The sum of written terms, one exponent for each variable and a coefficient below p in each, is a falling list of

@@ -1,5 +1,8 @@
 // What the clauses don't say: that texts are read at all, and that the definitions are those of the grammar. The expected
 // values come from an independent reader.
+ghost use Rattle.std.specs.Prelude.{IfOk};
+ghost use Rattle.fm_problem.specs.Problems.{IsBounded};
+
 use crate::{
     FaultKind, PolyFault, Problem, ProblemError, Query, read_poly, read_problem, read_query,
 };
@@ -127,13 +130,16 @@ fn fault_of(alloc: Global, text: &[u8]) -> Result<Option<(u32, FaultKind)>, Fail
     }
 }
 
-fn problem_of(alloc: Global, text: &[u8]) -> Result<Problem, Fail> {
+fn problem_of(alloc: Global, text: &[u8]) -> Result<Problem, Fail>
+    ensures { IfOk result IsBounded }
+{
     let short = if text.len() > 1_048_576 {
         b"".as_slice()
     } else {
         text
     };
-    Ok(read_problem(alloc, short)?)
+    let problem = read_problem(alloc, short)?;
+    Ok(problem)
 }
 
 fn is_poly(f: &Poly, want: &[(u8, &[u16])]) -> bool {
@@ -159,7 +165,7 @@ fn names_the_first_fault(rt: HostRuntime) -> Result<(), Fail> {
 }
 
 #[test]
-fn reads_whole_values(rt: HostRuntime) -> Result<(), Fail> {
+fn reads_whole_problems(rt: HostRuntime) -> Result<(), Fail> {
     let text =
         b" ring 007 x y\r\n#\xff\n\t\norder lex\nideal I = - x^2 * x*3 + 10*y ^ 0 - 0*y + x,0\nclass 01 I 16(y-y+x*y )";
     let problem = problem_of(rt.alloc(), text)?;
@@ -190,38 +196,38 @@ fn reads_whole_values(rt: HostRuntime) -> Result<(), Fail> {
         }
         _ => assert!(rt; false),
     }
-    let query = read_query(rt.alloc(), &problem, b"class 1 I 0 (1)")?;
-    assert!(rt;
-        matches!(
-            &query,
-            Query::Class {
-                i: 1,
-                ideal: 0,
-                e: 0,
-                ..
-            }
-        )
-    );
-    let ended = read_query(rt.alloc(), &problem, b"class 1 I 0 (1)\r");
-    assert!(rt;
-        matches!(
-            &ended,
-            Err(ProblemError::Fault {
-                line: 1,
-                kind: FaultKind::Syntax
-            })
-        )
-    );
-    let comment = read_query(rt.alloc(), &problem, b"# class 1 I 0 (1)");
-    assert!(rt;
-        matches!(
-            &comment,
-            Err(ProblemError::Fault {
-                line: 1,
-                kind: FaultKind::Syntax
-            })
-        )
-    );
+    Ok(())
+}
+
+#[test]
+fn reads_queries_alone(rt: HostRuntime) -> Result<(), Fail> {
+    let problem = problem_of(rt.alloc(), b"ring 2 x\nideal J = x+1\nideal I = x^2")?;
+    let query = read_query(rt.alloc(), &problem, b" class 1 I 3 (x+1+1) ")?;
+    match &query {
+        Query::Class {
+            i: 1,
+            ideal: 1,
+            e: 3,
+            z,
+        } => {
+            let entries = z.as_slice();
+            assert!(rt; entries.len() == 1 && is_poly(&entries[0], &[(1, &[1])]));
+        }
+        _ => assert!(rt; false),
+    }
+    let rows = [
+        ("class 1 I 0 (1)\r", FaultKind::Syntax),
+        ("# class 1 I 0 (1)", FaultKind::Syntax),
+        ("  ", FaultKind::Syntax),
+        ("class 1 K 0 (1)", FaultKind::UnknownName),
+        ("class 1 I 0 (1, 1)", FaultKind::NotBuilt),
+    ];
+    for (line, want) in rows {
+        match read_query(rt.alloc(), &problem, line.as_bytes()) {
+            Err(ProblemError::Fault { line: 1, kind }) => assert_eq!(rt; kind, want, "{line}"),
+            _ => assert!(rt; false, "{line}"),
+        }
+    }
     Ok(())
 }
 

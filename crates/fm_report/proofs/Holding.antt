@@ -20,6 +20,7 @@ use Rattle.fm_report.specs.Reading.{statements}
 use Rattle.fm_report.specs.Writing.{End, answered, unanswered, QueryReport, Report, said_of, report_says, report_text, IsWritable}
 use Rattle.fm_report.specs.Holding.{stage_of, QueryHolds, AllHold, VerdictsHold, VerdictsHoldSince}
 use Rattle.fm_report.specs.PrincipalQueries.{PrincipalQuery, principal_answer, principal_report, principal_stated, DividesExactly, IsRight, IsRightEnd, AreRight}
+use Rattle.fm_report.proofs.Exact.{resolved_is_right}
 use Rattle.fm_report.proofs.Lines.{statements_begin}
 use Rattle.fm_report.proofs.Written.{report_read}
 
@@ -63,6 +64,12 @@ module _ (p : Prime) (n : ℕ) where
   right_answer f z nonzero e false d (yes_at_stage k) h = let w = (principal_killed p n f nonzero h.0 e z).0 h.2.0 in absurd (d w.0 w.1)
   right_answer f z nonzero e false d no h = refl
 
+  -- an answer that holds along f^(p-1) tells whether f^[q] divides z
+  held_divides : (f z : Polynomial p n) (nonzero : f ≡ polynomial_zero p n → ⊥) (e : ℕ) (b : Bool) → HoldsOfClass p n 1 (principal p n f) e (z ∷ []) (stage_of (principal_answer b e))
+      → DividesExactly p n (frobenius_twist p n e f) z b
+  held_divides f z nonzero e true h = (principal_killed p n f nonzero h.0 e z).0 h.2.0
+  held_divides f z nonzero e false h = λ w d. h ((principal_zero p n f nonzero e z).1 (w, d))
+
 -- a query that is computed rightly holds
 pub principal_holds : (p : Prime) (names : List Bytes) (c : PrincipalQuery) → IsRight p (length names) c → QueryHolds (principal_stated p names c (principal_answer c.divides c.stage))
 unfolding QueryHolds part_value printed_matrix ideal_with
@@ -85,6 +92,21 @@ only_the_right_answer p names c r a h =
     let z = polynomial_of p n c.z in
     let ideal = is_principal p n f (polynomial_of p n ((replicate n 0, 1) ∷ [])) (polynomial_of p n c.theta) r.nonzero (one_means p n) r.lift in
     right_answer p n f z r.nonzero c.stage c.divides r.answer a (subst (λ I. HoldsOfClass p n 1 I c.stage (z ∷ []) (stage_of a)) ideal h.1.1)
+
+-- a query that holds is right
+pub held_is_right : (p : Prime) (names : List Bytes) (c : PrincipalQuery) → QueryHolds (principal_stated p names c (principal_answer c.divides c.stage)) → IsRight p (length names) c
+unfolding QueryHolds part_value printed_matrix ideal_with
+held_is_right p names c h =
+    let n = length names in
+    let f = polynomial_of p n c.f in
+    let z = polynomial_of p n c.z in
+    let facts = resolved_is_right p n f (polynomial_of p n ((replicate n 0, 1) ∷ [])) (polynomial_of p n c.theta) (one_means p n) h.0 in
+    let ideal = is_principal p n f (polynomial_of p n ((replicate n 0, 1) ∷ [])) (polynomial_of p n c.theta) facts.0 (one_means p n) facts.1 in
+    record {
+      nonzero = facts.0;
+      lift = facts.1;
+      answer = held_divides p n f z facts.0 c.stage c.divides (subst (λ I. HoldsOfClass p n 1 I c.stage (z ∷ []) (stage_of (principal_answer c.divides c.stage))) ideal h.1.1);
+    }
 
 -- ---- reports
 all_append : (xs ys : List Statement) → AllHold xs → AllHold ys → AllHold (xs ++ ys)
@@ -133,7 +155,7 @@ pub silent_holds : (bytes : Bytes) → statements bytes ≡ [] → VerdictsHold 
 unfolding VerdictsHold
 silent_holds bytes e = subst AllHold (sym e) tt
 
-nothing_stated : statements [] ≡ []
+pub nothing_stated : statements [] ≡ []
 unfolding statements
 nothing_stated = refl
 

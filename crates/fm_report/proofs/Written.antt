@@ -21,7 +21,7 @@ use Rattle.fm_report.proofs.Lines.{line, text_by_test, statements_of_lines}
 use Rattle.fm_report.proofs.Steps.{at, Reads, next, next_states, no_lines, number_word, names_words, prime_small, ring_read, ideal_read, ideal_line_of, query_read, query_line_of, answer_read, answer_line_of, datum_read, datum_line_of, IsWritableMatrix, given_read, part_read, part_line_of, differential_read, theta_read, naming_line_of, done_read, done_line_of}
 
 -- ---- equal words
-same_means_equal : (x y : Bytes) → same_bytes x y ≡ true → x ≡ y
+pub same_means_equal : (x y : Bytes) → same_bytes x y ≡ true → x ≡ y
 same_means_equal [] [] h = refl
 same_means_equal [] (b ∷ y) h = absurd (false≢true h)
 same_means_equal (a ∷ x) [] h = absurd (false≢true h)

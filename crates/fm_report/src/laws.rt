@@ -1,5 +1,7 @@
 // The laws of reports.
-ghost use Rattle.std.specs.Prelude.{◌++◌, ◌≡◌, List, length};
+ghost use Rattle.std.specs.Prelude.{[], List, length, nat_eq, not, true, ◌++◌, ◌∷◌, ◌≡◌};
+ghost use Rattle.std.specs.List.{list_all};
+ghost use Rattle.std.specs.Prelude.{◌++◌, ◌≡◌, ◌↔◌, List, length};
 ghost use Rattle.fm_poly.specs.Texts.{Bytes};
 ghost use Rattle.fm_report.specs.Statements.{Answer, Statement};
 ghost use Rattle.fm_gfp.specs.declared.prime.Prime.{Prime};
@@ -28,8 +30,14 @@ pub fn right_reports_hold_in_the_limit()
     ensures { (r : Report) → IsWritable r → AreRight r.prime (length r.names) r.queries → (front back : Bytes) → report_text r ≡ front ++ back → VerdictsHold front }
 {}
 
-/// Along the matrices of a query that is computed rightly only one answer holds: the one that the division gives.
-pub fn wrong_answers_do_not_hold()
-    ensures right { (p : Prime) (names : List Bytes) (q : PrincipalQuery) → IsRight p (length names) q → QueryHolds (principal_stated p names q (principal_answer q.divides q.stage)) }
+/// A stated query on a principal ideal, along matrices of the form that is printed, holds exactly if it was computed rightly: a lift that is none, a zero f or a wrong answer is refused. Along the matrices of a right query only one answer holds.
+pub fn queries_on_principal_ideals_hold_exactly_if_right()
+    ensures exactly { (p : Prime) (names : List Bytes) (q : PrincipalQuery) → QueryHolds (principal_stated p names q (principal_answer q.divides q.stage)) ↔ IsRight p (length names) q }
     ensures only { (p : Prime) (names : List Bytes) (q : PrincipalQuery) → IsRight p (length names) q → (a : Answer) → QueryHolds (principal_stated p names q a) → a ≡ principal_answer q.divides q.stage }
+{}
+
+/// A text of one line states nothing, nor does a beginning of it or no text at all: a verdict needs a ring and a question before it. So a message in place of a report states no verdict.
+pub fn a_text_of_one_line_states_nothing()
+    ensures line { (line : Bytes) → list_all (λ b. not (nat_eq b 10)) line ≡ true → (front back : Bytes) → line ++ 10 ∷ [] ≡ front ++ back → VerdictsHold front }
+    ensures nothing { VerdictsHold [] }
 {}

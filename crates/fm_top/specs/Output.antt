@@ -1,9 +1,15 @@
 -- What a run answers: a function of the words and the text.
-use Rattle.std.specs.Prelude.{ℕ, List, [], ◌∷◌, ◌++◌, length, Option, Some, codes, nat_lt, if◌then◌else◌}
+use Rattle.std.specs.Prelude.{ℕ, List, [], ◌∷◌, ◌++◌, ◌≡◌, length, Option, Some, None, Result, Ok, Err, codes, decimal, nat_lt, if◌then◌else◌}
 use Rattle.std.specs.Option.{option_map}
 use Rattle.fm_base.specs.declared.status.Status.{Status}
-use Rattle.fm_base.specs.declared.status.Status.TheVariants.{Usage, Problem, TooLong}
-use Rattle.fm_top.specs.Words.{reads_problem}
+use Rattle.fm_base.specs.declared.status.Status.TheVariants.{Done, Usage, Unanswered, Problem, TooLong}
+use Rattle.fm_problem.specs.declared.problem.Problem as problems
+use Rattle.fm_problem.specs.Faults.{Fault, fault_text}
+use Rattle.fm_problem.specs.Problems.{problem_of}
+use Rattle.fm_report.specs.Holding.{VerdictsHold}
+use Rattle.fm_report.specs.Writing.{report_text}
+use Rattle.fm_decide.specs.Reports.{report_of, all_answered}
+use Rattle.fm_top.specs.Words.{budget_of}
 
 -- a status and the bytes written
 pub record Output : Type 0 where
@@ -21,17 +27,38 @@ line_of text = text ++ 10 ∷ []
 abbrev pub usage : Output
 usage = record { status = Usage; bytes = line_of (codes "usage: fmod decide [--budget N] | check | sample N") }
 
--- what a problem text within the limit gives
-unfoldable pub decided : List ℕ → Output
-decided text = record { status = Problem; bytes = line_of (codes "line 1: not built") }
+-- the line of the first fault
+abbrev pub faulted : Fault → Output
+faulted f = record { status = Problem; bytes = codes "line " ++ (decimal f.line ++ (codes ": " ++ line_of (fault_text f.kind))) }
+
+-- the report of a problem; the status tells whether each query is answered
+abbrev pub reported : ℕ → problems.Problem → Output
+reported units q = record { status = if all_answered (report_of units q).queries then Done else Unanswered; bytes = report_text (report_of units q) }
+
+abbrev pub judged : ℕ → Result problems.Problem Fault → Output
+judged units (Ok q) = reported units q
+judged units (Err f) = faulted f
+
+-- what a problem text within the limit gives, with this number of units for each query
+unfoldable pub decided : ℕ → List ℕ → Output
+decided units text = judged units (problem_of text)
+
+abbrev pub output_within : Option ℕ → List ℕ → Output
+output_within None text = usage
+output_within (Some units) text = if nat_lt problem_limit (length text) then record { status = TooLong; bytes = [] } else decided units text
 
 -- the output of words and a text
 unfoldable pub output_of : List (List ℕ) → List ℕ → Output
-output_of words text =
-    if reads_problem words
-    then (if nat_lt problem_limit (length text) then record { status = TooLong; bytes = [] } else decided text)
-    else usage
+output_of words text = output_within (budget_of words) text
+
+abbrev pub determined_within : Option ℕ → Option (List ℕ) → Option Output
+determined_within None told = Some usage
+determined_within (Some units) told = option_map (output_within (Some units)) told
 
 -- the output where it is determined: the words need no text, or the text is told
 unfoldable pub determined_output : List (List ℕ) → Option (List ℕ) → Option Output
-determined_output words told = if reads_problem words then option_map (output_of words) told else Some usage
+determined_output words told = determined_within (budget_of words) told
+
+-- each beginning of the bytes states only verdicts that hold
+abbrev pub HoldThroughout : List ℕ → Type 0
+HoldThroughout bytes = (front back : List ℕ) → bytes ≡ front ++ back → VerdictsHold front

@@ -4,6 +4,8 @@
 mod deciding;
 mod reply;
 mod running;
+#[cfg(test)]
+mod tests;
 mod words;
 
 pub use running::run;

@@ -4,3 +4,4 @@ pub mod Proper
 pub mod Meaning
 pub mod Components
 pub mod PlacedTerms
+pub mod Inverse

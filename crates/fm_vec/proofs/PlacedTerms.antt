@@ -95,10 +95,10 @@ module _ (r : Ring) where
       at_least = elim (less_place r.order u t w.0) [ inl lower ↦ omega arith | inr same ↦ (let e = same.0 in omega arith) ]
 
   -- what stands in component k at the front, and what comes after it
-  record IsFront (k : ℕ) (ts : List VTerm) (count : ℕ) : Type 0 where
-    own : unplaced (take count ts) ≡ component_terms k ts
-    others : (j : ℕ) → k < j → component_terms j (drop count ts) ≡ component_terms j ts
-    above : AreFrom (suc k) (drop count ts)
+  pub record IsFront (k : ℕ) (ts : List VTerm) (count : ℕ) : Type 0 where
+    pub own : unplaced (take count ts) ≡ component_terms k ts
+    pub others : (j : ℕ) → k < j → component_terms j (drop count ts) ≡ component_terms j ts
+    pub above : AreFrom (suc k) (drop count ts)
 
   differs : (c k : ℕ) → k < c → (c == k) ≡ false
   differs c k h = grind (arith, nat_tests)
@@ -106,7 +106,7 @@ module _ (r : Ring) where
   greater : (c k : ℕ) → k ≤ c → (c == k) ≡ false → k < c
   greater c k h e = grind (arith, nat_tests)
 
-  front : (k : ℕ) (ts : List VTerm) → Falls r.order ts → AreFrom k ts → IsFront k ts (front_count k ts)
+  pub front : (k : ℕ) (ts : List VTerm) → Falls r.order ts → AreFrom k ts → IsFront k ts (front_count k ts)
   front k [] w h = record { own = refl; others = λ j l. refl; above = tt }
   front k (t ∷ ts) w h = go (t.component == k) refl (front k ts w.1 h.1)
     where
@@ -126,7 +126,7 @@ module _ (r : Ring) where
         above = (greater t.component k h.0 e, from_below (suc k) t ts (greater t.component k h.0 e) w.0);
       }
 
-  falls_later : (n : ℕ) (ts : List VTerm) → Falls r.order ts → Falls r.order (drop n ts)
+  pub falls_later : (n : ℕ) (ts : List VTerm) → Falls r.order ts → Falls r.order (drop n ts)
   falls_later zero ts w = w
   falls_later (suc n) [] w = tt
   falls_later (suc n) (t ∷ ts) w = falls_later n ts w.1
@@ -136,7 +136,7 @@ module _ (r : Ring) where
   terms_later (suc n) [] w = tt
   terms_later (suc n) (t ∷ ts) w = terms_later n ts w.1
 
-  column_same : (n j : ℕ) (ts us : List VTerm) → ((i : ℕ) → j ≤ i → component_terms i ts ≡ component_terms i us) → column_from r n j ts ≡ column_from r n j us
+  pub column_same : (n j : ℕ) (ts us : List VTerm) → ((i : ℕ) → j ≤ i → component_terms i ts ≡ component_terms i us) → column_from r n j ts ≡ column_from r n j us
   column_same zero j ts us e = refl
   column_same (suc n) j ts us e =
       ap₂ (λ x xs. record { ring = r; terms = x } ∷ xs) (e j (omega arith)) (column_same n (suc j) ts us (λ i l. e i (omega arith)))

@@ -3,7 +3,7 @@ use Rattle.std.specs.Prelude.{ℕ, zero, suc, ◌==◌, ◌≡◌, if◌then◌e
 use Rattle.fm_algebra.specs.Polynomials.{Polynomial}
 use Rattle.fm_poly.specs.declared.ring.Ring.{Ring}
 use Rattle.fm_poly.specs.declared.term.Term.{Term}
-use Rattle.fm_poly.specs.Polys.{PolyValue, meaning, IsCanonical}
+use Rattle.fm_poly.specs.Polys.{PolyValue, meaning}
 use Rattle.fm_vec.specs.declared.vterm.VTerm.{VTerm}
 
 -- the terms in component k
@@ -43,8 +43,3 @@ column_terms k (f ∷ fs) = placed k f.terms ++ column_terms (suc k) fs
 abbrev pub AreOver : Ring → List PolyValue → Type 0
 AreOver r [] = Unit {0}
 AreOver r (f ∷ fs) = (f.ring ≡ r) × AreOver r fs
-
--- each polynomial is of the ring r and has the terms of one
-abbrev pub AreOfRing : Ring → List PolyValue → Type 0
-AreOfRing r [] = Unit {0}
-AreOfRing r (f ∷ fs) = (f.ring ≡ r) × IsCanonical r f.terms × AreOfRing r fs

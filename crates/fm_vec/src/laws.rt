@@ -1,9 +1,10 @@
 // Laws of vectors: what their terms mean, component by component.
-ghost use Rattle.std.specs.Prelude.{List, length, ℕ, ◌<◌, ◌^◌, ◌≡◌};
+ghost use Rattle.std.specs.Prelude.{List, length, map, ℕ, ◌<◌, ◌^◌, ◌≡◌};
 ghost use Rattle.fm_gfp.specs.Primes.{prime_value};
 ghost use Rattle.fm_algebra.specs.Polynomials.{frobenius_twist, polynomial_product, polynomial_sum, polynomial_term};
+ghost use Rattle.fm_poly.specs.Polys.{PolyValue, meaning};
 ghost use Rattle.fm_poly.specs.declared.ring.Ring.{Ring};
-ghost use Rattle.fm_vec.specs.Components.{component_meaning};
+ghost use Rattle.fm_vec.specs.Components.{AreOver, column_from, column_terms, component_meaning, vector_meaning};
 ghost use Rattle.fm_vec.specs.Multiples.{minus_multiple, plus_multiple, twisted};
 ghost use Rattle.fm_vec.specs.Vectors.{AreTerms, IsVector};
 ghost use Rattle.fm_vec.specs.declared.vterm.VTerm.{VTerm};
@@ -30,4 +31,16 @@ pub fn vectors_are_their_components()
 /// Each component of the twist by p^e is the Frobenius twist of the component.
 pub fn twists_go_by_components()
     ensures { (r : Ring) (k e : ℕ) (ts : List VTerm) → component_meaning r k (twisted (prime_value r.prime ^ e) ts) ≡ frobenius_twist r.prime r.vars e (component_meaning r k ts) }
+{}
+
+/// A vector and the column of its components give each other back.
+pub fn columns_and_vectors_are_inverse()
+    ensures vector { (r : Ring) (n : ℕ) (ts : List VTerm) → IsVector r n ts → column_terms 1 (column_from r n 1 ts) ≡ ts }
+    ensures column { (r : Ring) (fs : List PolyValue) → AreOver r fs → column_from r (length fs) 1 (column_terms 1 fs) ≡ fs }
+{}
+
+/// A vector means the list of its components, as they are written out as a column.
+pub fn a_vector_means_its_column()
+    ensures vector { (r : Ring) (n : ℕ) (ts : List VTerm) → vector_meaning r n ts ≡ map (λ (f : PolyValue). meaning r f.terms) (column_from r n 1 ts) }
+    ensures column { (r : Ring) (fs : List PolyValue) → AreOver r fs → vector_meaning r (length fs) (column_terms 1 fs) ≡ map (λ (f : PolyValue). meaning r f.terms) fs }
 {}

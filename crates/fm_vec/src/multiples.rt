@@ -252,11 +252,7 @@ fn push_top<'a>(
             push_sum(ring, x, t, out)?;
             Ok(later)
         }
-        Ordering::Less => {
-            out.push(*t)?;
-            Ok(f)
-        }
-        Ordering::Greater => {
+        Ordering::Less | Ordering::Greater => {
             out.push(*t)?;
             Ok(f)
         }

@@ -1,6 +1,6 @@
 -- A text is cut at the first mark.
-use Rattle.std.proofs.Common.{◌≡◌, ℕ, zero, suc, ◌+◌, ◌-◌, ◌<◌, ◌≤◌, Bool, true, false, cond, Option, None, List, [], ◌∷◌, get_or, take, drop, length, refl, sym, ◌∙◌, ap, arith, add-one}
-use Rattle.std.specs.List.{slice_split, onto_first}
+use Rattle.std.proofs.Common.{◌≡◌, ℕ, zero, suc, ◌+◌, ◌-◌, ◌<◌, ◌≤◌, Bool, true, false, cond, None, List, [], ◌∷◌, get_or, take, drop, length, refl, sym, ◌∙◌, ap, arith, add-one}
+use Rattle.std.specs.List.{onto_first}
 use Rattle.std.proofs.lemmas.List.{take_rest}
 use Rattle.fm_words.specs.declared.mark.Mark.{Mark}
 use Rattle.fm_words.specs.Parts.{is_mark, parts, before_mark, after_mark, pair}

@@ -1,5 +1,5 @@
 -- The end of a line.
-use Rattle.std.proofs.Common.{◌≡◌, ℕ, List, [], ◌∷◌, ◌++◌, refl, sym, ◌∙◌, ap, nat_eq, true, false}
+use Rattle.std.proofs.Common.{◌≡◌, ℕ, List, [], ◌∷◌, ◌++◌, refl, sym, ◌∙◌, ap, nat_eq, false}
 use Rattle.std.proofs.lemmas.Bool.{ne_eqb}
 use Rattle.fm_words.specs.Lines.{without_return}
 

@@ -23,19 +23,24 @@ pub struct ClassQuery<'a> {
 }
 
 /// Appends the block of a query on a class: the query, how it ended and what stands under an answer, and its last line.
-pub fn push_class(alloc: Global, names: &[String], out: &mut Vec<u8>, number: u64, query: &ClassQuery<'_>, outcome: &ClassOutcome) -> Result<(), AllocError>
+pub fn push_class(
+    alloc: Global,
+    names: &[String],
+    out: &mut Vec<u8>,
+    number: u64,
+    query: &ClassQuery<'_>,
+    outcome: &ClassOutcome,
+) -> Result<(), AllocError>
     requires vector { AreOverVariables (length names.now) query.now.vector.now }
     requires outcome { IsOutcomeOver (length names.now) outcome.now }
-    ensures {
-        OnOk result ((generators : List Terms)
-            → out.new.items ≡ out.old.items ++ lines_text (block_lines (map string_bytes names.now) number (class_report (record {
-                degree = query.now.degree;
-                ideal = query.now.ideal.now;
-                generators = generators;
-                stage = query.now.stage;
-                vector = printed_vector query.now.vector.now;
-            }) outcome.now)))
-    }
+    ensures { OnOk result ((generators : List Terms)
+        → out.new.items ≡ out.old.items ++ lines_text (block_lines (map string_bytes names.now) number (class_report (record {
+          degree = query.now.degree;
+          ideal = query.now.ideal.now;
+          generators = generators;
+          stage = query.now.stage;
+          vector = printed_vector query.now.vector.now;
+        }) outcome.now))) }
 {
     push_query_line(alloc, names, out, number, query)?;
     push_outcome(alloc, names, out, query, outcome)?;
@@ -44,12 +49,16 @@ pub fn push_class(alloc: Global, names: &[String], out: &mut Vec<u8>, number: u6
 }
 
 // `query K class DEGREE NAME STAGE VECTOR`
-fn push_query_line(alloc: Global, names: &[String], out: &mut Vec<u8>, number: u64, query: &ClassQuery<'_>) -> Result<(), AllocError>
+fn push_query_line(
+    alloc: Global,
+    names: &[String],
+    out: &mut Vec<u8>,
+    number: u64,
+    query: &ClassQuery<'_>,
+) -> Result<(), AllocError>
     requires { AreOverVariables (length names.now) query.now.vector.now }
-    ensures {
-        OnOk result (out.new.items ≡ out.old.items ++ line_text (codes "query" ∷ decimal number ∷ codes "class" ∷ decimal query.now.degree
-            ∷ query.now.ideal.now ∷ decimal query.now.stage ∷ vector_text (map string_bytes names.now) (printed_vector query.now.vector.now) ∷ []))
-    }
+    ensures { OnOk result (out.new.items ≡ out.old.items ++ line_text (codes "query" ∷ decimal number ∷ codes "class" ∷ decimal query.now.degree
+        ∷ query.now.ideal.now ∷ decimal query.now.stage ∷ vector_text (map string_bytes names.now) (printed_vector query.now.vector.now) ∷ [])) }
 {
     let words = [
         b"query".to_vec(alloc)?,
@@ -74,22 +83,30 @@ fn push_done_line(alloc: Global, out: &mut Vec<u8>, number: u64) -> Result<(), A
 }
 
 // How the query ended.
-fn push_outcome(alloc: Global, names: &[String], out: &mut Vec<u8>, query: &ClassQuery<'_>, outcome: &ClassOutcome) -> Result<(), AllocError>
+fn push_outcome(
+    alloc: Global,
+    names: &[String],
+    out: &mut Vec<u8>,
+    query: &ClassQuery<'_>,
+    outcome: &ClassOutcome,
+) -> Result<(), AllocError>
     requires { IsOutcomeOver (length names.now) outcome.now }
-    ensures {
-        OnOk result ((generators : List Terms)
-            → let q = class_report (record {
-                degree = query.now.degree;
-                ideal = query.now.ideal.now;
-                generators = generators;
-                stage = query.now.stage;
-                vector = printed_vector query.now.vector.now;
-            }) outcome.now in
-            out.new.items ≡ out.old.items ++ lines_text (end_lines (map string_bytes names.now) q q.end))
-    }
+    ensures { OnOk result ((generators : List Terms)
+        → let q = class_report (record {
+          degree = query.now.degree;
+          ideal = query.now.ideal.now;
+          generators = generators;
+          stage = query.now.stage;
+          vector = printed_vector query.now.vector.now;
+        }) outcome.now in
+        out.new.items ≡ out.old.items ++ lines_text (end_lines (map string_bytes names.now) q q.end)) }
 {
     match outcome {
-        ClassOutcome::Answered { stage, resolution, lift } => {
+        ClassOutcome::Answered {
+            stage,
+            resolution,
+            lift,
+        } => {
             push_answer_line(alloc, out, *stage)?;
             push_datum_line(alloc, out, query)?;
             push_matrices(alloc, names, out, resolution, lift)?;
@@ -131,16 +148,30 @@ fn push_unanswered_line(out: &mut Vec<u8>, why: &[Vec<u8>]) -> Result<(), AllocE
 }
 
 // `datum NAME DEGREE`
-fn push_datum_line(alloc: Global, out: &mut Vec<u8>, query: &ClassQuery<'_>) -> Result<(), AllocError>
+fn push_datum_line(
+    alloc: Global,
+    out: &mut Vec<u8>,
+    query: &ClassQuery<'_>,
+) -> Result<(), AllocError>
     ensures { OnOk result (out.new.items ≡ out.old.items ++ line_text (codes "datum" ∷ query.now.ideal.now ∷ decimal query.now.degree ∷ [])) }
 {
-    let words = [b"datum".to_vec(alloc)?, query.ideal.to_vec(alloc)?, number_word(alloc, query.degree)?];
+    let words = [
+        b"datum".to_vec(alloc)?,
+        query.ideal.to_vec(alloc)?,
+        number_word(alloc, query.degree)?,
+    ];
     push_line(out, &words)?;
     Ok(())
 }
 
 // The resolution from `d 1` on and the lift from `theta 0` on.
-fn push_matrices(alloc: Global, names: &[String], out: &mut Vec<u8>, resolution: &[MatrixPart], lift: &[MatrixPart]) -> Result<(), AllocError>
+fn push_matrices(
+    alloc: Global,
+    names: &[String],
+    out: &mut Vec<u8>,
+    resolution: &[MatrixPart],
+    lift: &[MatrixPart],
+) -> Result<(), AllocError>
     requires resolution { AreMatricesOver (length names.now) resolution.now }
     requires lift { AreMatricesOver (length names.now) lift.now }
     requires few { length resolution.now + length lift.now + 1 < 2 ^ 64 }

@@ -13,7 +13,11 @@ use fm_poly::Poly;
 use std::alloc::{AllocError, Global};
 
 /// The form `given ROWS COLUMNS VECTOR ..` of a matrix.
-pub fn given_form(alloc: Global, names: &[String], matrix: &MatrixPart) -> Result<Vec<Vec<u8>>, AllocError>
+pub fn given_form(
+    alloc: Global,
+    names: &[String],
+    matrix: &MatrixPart,
+) -> Result<Vec<Vec<u8>>, AllocError>
     requires { AreColumnsOver (length names.now) matrix.now.columns.items }
     ensures { IfOk result (λ form. words_of form.items ≡ given_words (map string_bytes names.now) (printed_matrix matrix.now)) }
 {
@@ -25,7 +29,12 @@ pub fn given_form(alloc: Global, names: &[String], matrix: &MatrixPart) -> Resul
     Ok(words)
 }
 
-fn push_vectors(alloc: Global, names: &[String], columns: &[Vec<Poly>], words: &mut Vec<Vec<u8>>) -> Result<(), AllocError>
+fn push_vectors(
+    alloc: Global,
+    names: &[String],
+    columns: &[Vec<Poly>],
+    words: &mut Vec<Vec<u8>>,
+) -> Result<(), AllocError>
     requires { AreColumnsOver (length names.now) columns.now }
     ensures { OnOk result (words_of words.new.items ≡ words_of words.old.items ++ map (vector_text (map string_bytes names.now)) (printed_columns columns.now)) }
 {

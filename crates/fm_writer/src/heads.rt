@@ -13,7 +13,12 @@ use fm_poly::{Poly, Ring};
 use std::alloc::{AllocError, Global};
 
 /// Appends the first three lines of a report.
-pub fn push_head(alloc: Global, out: &mut Vec<u8>, ring: Ring, names: &[String]) -> Result<(), AllocError>
+pub fn push_head(
+    alloc: Global,
+    out: &mut Vec<u8>,
+    ring: Ring,
+    names: &[String],
+) -> Result<(), AllocError>
     ensures { OnOk result (out.new.items ≡ out.old.items ++ lines_text (head_lines ring.prime (map string_bytes names.now) ring.order)) }
 {
     out.extend_from_slice(b"report 0\n")?;
@@ -57,7 +62,13 @@ fn order_line(order: Order) -> &'static [u8]
 }
 
 /// Appends the line of an ideal.
-pub fn push_ideal(alloc: Global, names: &[String], out: &mut Vec<u8>, name: &[u8], generators: &[Poly]) -> Result<(), AllocError>
+pub fn push_ideal(
+    alloc: Global,
+    names: &[String],
+    out: &mut Vec<u8>,
+    name: &[u8],
+    generators: &[Poly],
+) -> Result<(), AllocError>
     requires { AreOverVariables (length names.now) generators.now }
     ensures { OnOk result (out.new.items ≡ out.old.items ++ line_text (ideal_words (map string_bytes names.now) (name.now, printed_vector generators.now))) }
 {
@@ -70,7 +81,12 @@ pub fn push_ideal(alloc: Global, names: &[String], out: &mut Vec<u8>, name: &[u8
     Ok(())
 }
 
-fn push_generators(alloc: Global, names: &[String], generators: &[Poly], words: &mut Vec<Vec<u8>>) -> Result<(), AllocError>
+fn push_generators(
+    alloc: Global,
+    names: &[String],
+    generators: &[Poly],
+    words: &mut Vec<Vec<u8>>,
+) -> Result<(), AllocError>
     requires { AreOverVariables (length names.now) generators.now }
     ensures { OnOk result (words_of words.new.items ≡ words_of words.old.items ++ generator_words (map string_bytes names.now) (printed_vector generators.now)) }
 {
@@ -83,7 +99,13 @@ fn push_generators(alloc: Global, names: &[String], generators: &[Poly], words: 
 }
 
 // Each generator but the last has a comma at its end.
-fn push_some_generators(alloc: Global, names: &[String], first: &Poly, rest: &[Poly], words: &mut Vec<Vec<u8>>) -> Result<(), AllocError>
+fn push_some_generators(
+    alloc: Global,
+    names: &[String],
+    first: &Poly,
+    rest: &[Poly],
+    words: &mut Vec<Vec<u8>>,
+) -> Result<(), AllocError>
     requires { AreOverVariables (length names.now) (first.now ∷ rest.now) }
     ensures { OnOk result (words_of words.new.items
         ≡ words_of words.old.items ++ generator_words (map string_bytes names.now) (printed_vector (first.now ∷ rest.now))) }

@@ -9,6 +9,8 @@ pub mod heads;
 pub mod lines;
 pub mod matrix_part;
 pub mod namings;
+#[cfg(test)]
+mod tests;
 pub mod words;
 
 pub use class_outcome::ClassOutcome;

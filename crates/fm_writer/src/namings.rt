@@ -23,11 +23,9 @@ pub fn push_namings(
 ) -> Result<(), AllocError>
     requires over { AreMatricesOver (length names.now) matrices.now }
     requires few { first + length matrices.now < 2 ^ 64 }
-    ensures {
-        OnOk result ((rest : List Naming)
-            → out.new.items ++ lines_text (naming_lines rest (forms_of forms.new.items))
-            ≡ out.old.items ++ lines_text (naming_lines (namings word.now (map string_bytes names.now) first (printed_matrices matrices.now) ++ rest) (forms_of forms.old.items)))
-    }
+    ensures { OnOk result ((rest : List Naming)
+        → out.new.items ++ lines_text (naming_lines rest (forms_of forms.new.items))
+        ≡ out.old.items ++ lines_text (naming_lines (namings word.now (map string_bytes names.now) first (printed_matrices matrices.now) ++ rest) (forms_of forms.old.items))) }
 {
     let mut index = first;
     let mut left = matrices;
@@ -72,16 +70,31 @@ fn push_naming(
 }
 
 // Appends the line `WORD INDEX NUMBER`.
-fn push_naming_line(alloc: Global, out: &mut Vec<u8>, word: &[u8], index: u64, number: u64) -> Result<(), AllocError>
+fn push_naming_line(
+    alloc: Global,
+    out: &mut Vec<u8>,
+    word: &[u8],
+    index: u64,
+    number: u64,
+) -> Result<(), AllocError>
     ensures { OnOk result (out.new.items ≡ out.old.items ++ line_text (naming_words word.now index number)) }
 {
-    let words = [word.to_vec(alloc)?, number_word(alloc, index)?, number_word(alloc, number)?];
+    let words = [
+        word.to_vec(alloc)?,
+        number_word(alloc, index)?,
+        number_word(alloc, number)?,
+    ];
     push_line(out, &words)?;
     Ok(())
 }
 
 // Appends the line `part NUMBER FORM`.
-fn push_part_line(alloc: Global, out: &mut Vec<u8>, number: u64, form: &[Vec<u8>]) -> Result<(), AllocError>
+fn push_part_line(
+    alloc: Global,
+    out: &mut Vec<u8>,
+    number: u64,
+    form: &[Vec<u8>],
+) -> Result<(), AllocError>
     ensures { OnOk result (out.new.items ≡ out.old.items ++ line_text (part_words number (words_of form.now))) }
 {
     out.extend_from_slice(b"part ")?;

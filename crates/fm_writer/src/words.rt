@@ -53,7 +53,11 @@ fn push_entries(names: &[String], entries: &[Poly], out: &mut Vec<u8>) -> Result
 }
 
 // Appends these entries, each after a comma.
-fn push_more_entries(names: &[String], entries: &[Poly], out: &mut Vec<u8>) -> Result<(), AllocError>
+fn push_more_entries(
+    names: &[String],
+    entries: &[Poly],
+    out: &mut Vec<u8>,
+) -> Result<(), AllocError>
     requires { AreOverVariables (length names.now) entries.now }
     ensures ok { OnOk result (out.new.items ≡ out.old.items ++ joined 44 true (map (poly_text (map string_bytes names.now)) (printed_vector entries.now))) }
     ensures prefix { Extends out.old.items out.new.items }

@@ -1,4 +1,3 @@
-use Rattle.std.proofs.Common.{rules, sym, ap, refl, ◌∙◌}
 use Rattle.fm_principal.proofs.Ending.{plan_in_lift, plan_in_stage, plan_answers, headless}
 use Rattle.fm_principal.proofs.deciding.decide_class.Goals as goal
 

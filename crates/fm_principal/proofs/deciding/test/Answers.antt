@@ -1,5 +1,3 @@
-use Rattle.std.proofs.Common.{rules, sym, ap, refl, ◌∙◌, ◌≢◌, ◌≡◌, [], List}
-use Rattle.fm_vec.specs.declared.vterm.VTerm.{VTerm}
 use Rattle.fm_principal.proofs.Ending.{twist_keeps}
 use Rattle.fm_principal.proofs.deciding.test.Goals as goal
 

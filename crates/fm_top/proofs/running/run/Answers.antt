@@ -1,32 +1,54 @@
-use Rattle.std.proofs.Common.{◌≡◌, ◌∙◌, [], Err, ap, sym, refl}
+use Rattle.std.proofs.Common.{◌≡◌, ◌∙◌, [], Err, ap, sym, refl, subst, ◌++◌, List, ℕ}
 use Rattle.std.specs.Io.KnownBytes.{Appends}
 use Rattle.std.proofs.KnownBytes.{Appends-nil}
 use Rattle.fm_base.specs.declared.status.Status.TheVariants.{TooLong}
 use Rattle.fm_base.specs.Parts.{AppendsPrefix}
+use Rattle.fm_top.specs.Output.{HoldThroughout}
 use Rattle.fm_top.proofs.Outputs.{unread_determined, beyond_determined, reply_written, reply_begun}
+use Rattle.fm_top.proofs.Verdicts.{usage_holds, taken_holds, quiet_holds}
+use Rattle.fm_report.proofs.Holding.{kept_holds}
 use Rattle.fm_top.proofs.running.run.Goals as goal
 
-pub returns-then-not-is_decide-clause-output : goal.returns-then-not-is_decide-clause-output
-returns-then-not-is_decide-clause-output g c =
-    λ plain. unread_determined (λ o. (c.write_reply.result ≡ o.status) × Appends _ _ o.bytes) _ _ (sym c.is_decide.ensures ∙ c.if-not-is_decide.true) (c.write_reply.ensures.plain plain)
+pub returns-in_default-clause-output : goal.returns-in_default-clause-output
+returns-in_default-clause-output g c =
+    λ plain. unread_determined (λ o. (c.write_reply.result ≡ o.status) × Appends _ _ o.bytes) _ _ (sym c.budget.ensures ∙ c.in_default.is) (c.write_reply.ensures.plain plain)
 
-pub returns-then-not-is_decide-clause-prefix : goal.returns-then-not-is_decide-clause-prefix
-returns-then-not-is_decide-clause-prefix g c = unread_determined (λ o. AppendsPrefix _ _ o.bytes) _ _ (sym c.is_decide.ensures ∙ c.if-not-is_decide.true) c.write_reply.ensures.prefix
+pub returns-in_default-clause-prefix : goal.returns-in_default-clause-prefix
+returns-in_default-clause-prefix g c = unread_determined (λ o. AppendsPrefix _ _ o.bytes) _ _ (sym c.budget.ensures ∙ c.in_default.is) c.write_reply.ensures.prefix
+
+pub returns-in_default-clause-verdicts : goal.returns-in_default-clause-verdicts
+returns-in_default-clause-verdicts g c = taken_holds _ _ _ usage_holds c.write_reply.ensures.prefix
 
 pub returns-in-Ok-decide-clause-output : goal.returns-in-Ok-decide-clause-output
 returns-in-Ok-decide-clause-output g c =
-    λ plain. reply_written _ _ _ _ _ _ _ (sym c.is_decide.ensures ∙ c.if-not-is_decide.false) c.in-Ok.ensures.all c.in-Ok.ensures.within c.deref.ensures.value c.in-Ok-decide.ensures.status c.in-Ok-decide.ensures.bytes
+    λ plain. reply_written _ _ _ _ _ _ _ _ (sym c.budget.ensures ∙ c.in-Some.is) c.in-Ok.ensures.all c.in-Ok.ensures.within c.deref.ensures.value c.in-Ok-decide.ensures.status c.in-Ok-decide.ensures.bytes
     c.deref-in-Ok-decide.ensures.value _ _ _ (c.write_reply-in-Ok-decide.ensures.plain plain)
 
 pub returns-in-Ok-decide-clause-prefix : goal.returns-in-Ok-decide-clause-prefix
 returns-in-Ok-decide-clause-prefix g c =
-    reply_begun _ _ _ _ _ _ _ (sym c.is_decide.ensures ∙ c.if-not-is_decide.false) c.in-Ok.ensures.all c.in-Ok.ensures.within c.deref.ensures.value c.in-Ok-decide.ensures.status c.in-Ok-decide.ensures.bytes
+    reply_begun _ _ _ _ _ _ _ _ (sym c.budget.ensures ∙ c.in-Some.is) c.in-Ok.ensures.all c.in-Ok.ensures.within c.deref.ensures.value c.in-Ok-decide.ensures.status c.in-Ok-decide.ensures.bytes
     c.deref-in-Ok-decide.ensures.value _ _ c.write_reply-in-Ok-decide.ensures.prefix
+
+pub returns-in-Ok-decide-clause-verdicts : goal.returns-in-Ok-decide-clause-verdicts
+returns-in-Ok-decide-clause-verdicts g c =
+    taken_holds _ _ _ (subst HoldThroughout (sym c.deref-in-Ok-decide.ensures.value) c.in-Ok-decide.ensures.verdicts) c.write_reply-in-Ok-decide.ensures.prefix
+
+pub returns-in-Ok-clause-verdicts : goal.returns-in-Ok-clause-verdicts
+returns-in-Ok-clause-verdicts g c = kept_holds _
+
+pub returns-in-Err-ReadFault-clause-verdicts : goal.returns-in-Err-ReadFault-clause-verdicts
+returns-in-Err-ReadFault-clause-verdicts g c = kept_holds _
 
 pub returns-in-Err-TooLong-clause-output : goal.returns-in-Err-TooLong-clause-output
 returns-in-Err-TooLong-clause-output g c =
-    λ plain. beyond_determined (λ o. (TooLong ≡ o.status) × Appends _ _ o.bytes) _ _ _ (sym c.is_decide.ensures ∙ c.if-not-is_decide.false) (c.in-Err-TooLong.ensures.long (ap Err c.in-Err-TooLong.field-0-is)) (refl, Appends-nil _)
+    λ plain. beyond_determined (λ o. (TooLong ≡ o.status) × Appends _ _ o.bytes) _ _ _ _ (sym c.budget.ensures ∙ c.in-Some.is) (c.in-Err-TooLong.ensures.long (ap Err c.in-Err-TooLong.field-0-is)) (refl, Appends-nil _)
 
 pub returns-in-Err-TooLong-clause-prefix : goal.returns-in-Err-TooLong-clause-prefix
 returns-in-Err-TooLong-clause-prefix g c =
-    beyond_determined (λ o. AppendsPrefix _ _ o.bytes) _ _ _ (sym c.is_decide.ensures ∙ c.if-not-is_decide.false) (c.in-Err-TooLong.ensures.long (ap Err c.in-Err-TooLong.field-0-is)) ([], [], refl, Appends-nil _)
+    beyond_determined (λ o. AppendsPrefix _ _ o.bytes) _ _ _ _ (sym c.budget.ensures ∙ c.in-Some.is) (c.in-Err-TooLong.ensures.long (ap Err c.in-Err-TooLong.field-0-is)) ([], [], refl, Appends-nil _)
+
+pub returns-in-Err-TooLong-clause-verdicts : goal.returns-in-Err-TooLong-clause-verdicts
+returns-in-Err-TooLong-clause-verdicts g c = kept_holds _
+
+pub returns-clause-verdicts : goal.returns-clause-verdicts
+returns-clause-verdicts g c = kept_holds _

@@ -1,0 +1,228 @@
+// Classes against the answers of an independent program, and against ends found by hand.
+ghost use Rattle.std.specs.Prelude.{All, IfOk, ◌≡◌};
+ghost use Rattle.fm_poly.specs.Polys.{IsTermOf};
+
+use crate::{ClassEnd, Task, decide_class};
+use fm_complete::Stop;
+use fm_gfp::Prime;
+use fm_mono::{Mono, Order};
+use fm_poly::{Poly, Ring, Term};
+use std::alloc::{AllocError, Global};
+use std::test::Fail;
+
+// Terms in x and y: both exponents and the coefficient.
+type Listed = ([u16; 2], u64);
+
+type List = &'static [Listed];
+
+// How a plan ends: with the column of the lift and whether the class is zero, or in a task that stopped.
+#[derive(Clone, Copy)]
+enum End {
+    Answered(List, bool),
+    Stopped(Task, Stop),
+}
+
+// The stage and the entry of a class, a budget, and how the plan ends.
+type Row = (u8, List, u32, End);
+
+// Classes of one ideal.
+struct Classes {
+    prime: Prime,
+    order: Order,
+    generator: List,
+    rows: &'static [Row],
+}
+
+const IN_LIFT: End = End::Stopped(Task::Lift, Stop::Budget);
+
+const IN_STAGE: End = End::Stopped(Task::Stage, Stop::Budget);
+
+const PAST_THE_BOUND: End = End::Stopped(Task::Stage, Stop::Exponent);
+
+// The square of xy, and x^4 - x^3y + x^2y^2 - xy^3 + y^4.
+const SQUARE: List = &[([2, 2], 1)];
+
+const FOURTH: List = &[
+    ([4, 0], 1),
+    ([3, 1], 4),
+    ([2, 2], 1),
+    ([1, 3], 4),
+    ([0, 4], 1),
+];
+
+const STEEP: List = &[([1, 0], 1), ([0, 1000], 1)];
+
+const NORMAL_CROSSING: Classes = Classes {
+    prime: Prime::Three,
+    order: Order::Grevlex,
+    generator: &[([1, 1], 1)],
+    rows: &[
+        (0, &[([2, 1], 1)], 0, IN_LIFT),
+        (0, &[([2, 1], 1)], 1, IN_LIFT),
+        (0, &[([2, 1], 1)], 2, IN_STAGE),
+        (0, &[([2, 1], 1)], 3, IN_STAGE),
+        (0, &[([2, 1], 1)], 4, End::Answered(SQUARE, true)),
+        (0, &[([1, 0], 1)], 2, IN_STAGE),
+        (0, &[([1, 0], 1)], 3, End::Answered(SQUARE, false)),
+        (0, &[], 3, End::Answered(SQUARE, true)),
+        (1, &[([2, 1], 1)], 9, End::Answered(SQUARE, false)),
+        (1, &[([3, 3], 1)], 9, End::Answered(SQUARE, true)),
+        (
+            1,
+            &[([3, 4], 1), ([2, 0], 1)],
+            9,
+            End::Answered(SQUARE, false),
+        ),
+        (10, &[([0, 0], 1)], 3, End::Answered(SQUARE, false)),
+        (11, &[([0, 0], 1)], 3, PAST_THE_BOUND),
+        (11, &[], 2, PAST_THE_BOUND),
+        (11, &[], 1, IN_LIFT),
+    ],
+};
+
+const LINE: Classes = Classes {
+    prime: Prime::Five,
+    order: Order::Lex,
+    generator: &[([1, 0], 1), ([0, 1], 1)],
+    rows: &[
+        (1, &[([5, 0], 1), ([0, 5], 1)], 5, IN_LIFT),
+        (1, &[([5, 0], 1), ([0, 5], 1)], 7, IN_STAGE),
+        (
+            1,
+            &[([5, 0], 1), ([0, 5], 1)],
+            8,
+            End::Answered(FOURTH, true),
+        ),
+        (1, &[([4, 0], 1)], 7, End::Answered(FOURTH, false)),
+        (
+            0,
+            &[([2, 0], 1), ([0, 2], 4)],
+            9,
+            End::Answered(FOURTH, true),
+        ),
+        (
+            0,
+            &[([2, 0], 1), ([0, 2], 1)],
+            9,
+            End::Answered(FOURTH, false),
+        ),
+    ],
+};
+
+// A division passes the bound of exponents after 65 steps.
+const STEEP_LINE: Classes = Classes {
+    prime: Prime::Two,
+    order: Order::Lex,
+    generator: STEEP,
+    rows: &[
+        (0, &[([66, 0], 1)], 69, IN_STAGE),
+        (0, &[([66, 0], 1)], 70, PAST_THE_BOUND),
+        (0, &[([65, 0], 1)], 68, IN_STAGE),
+        (0, &[([65, 0], 1)], 69, End::Answered(STEEP, false)),
+        (6, &[([0, 0], 1)], 4, End::Answered(STEEP, false)),
+        (7, &[([0, 0], 1)], 4, PAST_THE_BOUND),
+    ],
+};
+
+const UNIT_IDEAL: Classes = Classes {
+    prime: Prime::Seven,
+    order: Order::Deglex,
+    generator: &[([0, 0], 3)],
+    rows: &[
+        (0, &[([1, 0], 1)], 9, End::Answered(&[([0, 0], 1)], true)),
+        (16, &[([1, 0], 1)], 9, End::Answered(&[([0, 0], 1)], true)),
+    ],
+};
+
+// The bound is 65535, and 3 * 21846 is greater.
+const HIGH_POWER: Classes = Classes {
+    prime: Prime::Three,
+    order: Order::Grevlex,
+    generator: &[([21_846, 0], 1)],
+    rows: &[(0, &[], 0, End::Stopped(Task::Lift, Stop::Exponent))],
+};
+
+fn listed(alloc: Global, ring: Ring, list: &[Listed]) -> Result<Vec<Term>, AllocError>
+    requires { ring.vars ≡ 2 }
+    ensures { IfOk result (λ v. All (IsTermOf ring) v.items) }
+{
+    let mut terms = Vec::new(alloc);
+    for t in list {
+        terms.push(Term {
+            mono: Mono::of(&t.0),
+            coeff: ring.prime.element(t.1),
+        })?;
+    }
+    Ok(terms)
+}
+
+fn poly(alloc: Global, ring: Ring, list: &[Listed]) -> Result<Poly, AllocError>
+    requires { ring.vars ≡ 2 }
+    ensures { IfOk result (λ f. f.ring ≡ ring) }
+{
+    let terms = listed(alloc, ring, list)?;
+    let f = Poly::from_terms(alloc, ring, &terms)?;
+    Ok(f)
+}
+
+// The end of the plan; there is none where the generator is zero.
+fn end_of(
+    alloc: Global,
+    ring: Ring,
+    generator: List,
+    row: &Row,
+) -> Result<Option<ClassEnd>, AllocError>
+    requires { ring.vars ≡ 2 }
+{
+    let (stage, entry, budget, _) = *row;
+    let f = poly(alloc, ring, generator)?;
+    if f.terms().is_empty() {
+        return Ok(None);
+    }
+    let z = poly(alloc, ring, entry)?;
+    let end = decide_class(alloc, ring, &[f], stage, &[z], budget)?;
+    Ok(Some(end))
+}
+
+fn is_end(alloc: Global, ring: Ring, end: &ClassEnd, want: &End) -> Result<bool, AllocError>
+    requires { ring.vars ≡ 2 }
+{
+    match (end, want) {
+        (ClassEnd::Answered { lift, is_zero }, End::Answered(list, zero)) => {
+            let terms = listed(alloc, ring, list)?;
+            Ok(is_zero == zero && lift.len() == 1 && lift[0].terms() == terms.as_slice())
+        }
+        (ClassEnd::Stopped { task, stop }, End::Stopped(in_task, why)) => Ok(
+            task == in_task && stop == why,
+        ),
+        _ => Ok(false),
+    }
+}
+
+fn ends_so(alloc: Global, classes: &Classes, row: &Row) -> Result<bool, AllocError> {
+    let ring = Ring {
+        prime: classes.prime,
+        vars: 2,
+        order: classes.order,
+    };
+    match end_of(alloc, ring, classes.generator, row)? {
+        Some(end) => is_end(alloc, ring, &end, &row.3),
+        None => Ok(false),
+    }
+}
+
+#[test]
+fn plans_end_as_they_should(rt: HostRuntime) -> Result<(), Fail> {
+    for (k, classes) in [NORMAL_CROSSING, LINE, STEEP_LINE, UNIT_IDEAL, HIGH_POWER]
+        .iter()
+        .enumerate()
+    {
+        for (row_number, row) in classes.rows.iter().enumerate() {
+            assert!(rt;
+                ends_so(rt.alloc(), classes, row)?,
+                "ideal {k}, row {row_number}"
+            );
+        }
+    }
+    Ok(())
+}

@@ -1,0 +1,303 @@
+// Whole runs over memory sources and sinks. The reports are those of an independent program, or written by hand.
+use crate::run;
+use fm_base::{MemorySink, MemorySource, Status};
+use std::alloc::Global;
+use std::test::Fail;
+
+#[derive(Clone, Copy)]
+struct Row {
+    words: &'static [&'static str],
+    text: &'static [u8],
+    failing_reads: &'static [u64],
+    failing_writes: &'static [u64],
+    status: Status,
+    written: &'static [u8],
+}
+
+const ROWS: [Row; 30] = [
+    Row {
+        words: &["decide"],
+        text: b"ring 3 x y\nideal I = x*y\nclass 1 I 0 (x^2*y)\n",
+        failing_reads: &[],
+        failing_writes: &[],
+        status: Status::Done,
+        written: b"report 0\nring 3 x y\norder grevlex\nideal I = x*y\nquery 1 class 1 I 0 (x^2*y)\nanswer yes stage 0\ndatum I 1\npart 1 given 1 1 (x*y)\nd 1 1\npart 2 given 1 0\nd 2 2\npart 3 given 1 1 (1)\ntheta 0 3\npart 4 given 1 1 (x^2*y^2)\ntheta 1 4\ndone 1\nend report\n",
+    },
+    Row {
+        words: &["decide"],
+        text: b"ring 3 x y\nideal I = x*y\nclass 1 I 0 (x)\n",
+        failing_reads: &[],
+        failing_writes: &[],
+        status: Status::Done,
+        written: b"report 0\nring 3 x y\norder grevlex\nideal I = x*y\nquery 1 class 1 I 0 (x)\nanswer no\ndatum I 1\npart 1 given 1 1 (x*y)\nd 1 1\npart 2 given 1 0\nd 2 2\npart 3 given 1 1 (1)\ntheta 0 3\npart 4 given 1 1 (x^2*y^2)\ntheta 1 4\ndone 1\nend report\n",
+    },
+    Row {
+        words: &["decide"],
+        text: b"ring 2 x\nideal I = x\nclass 1 I 1 (x)\nclass 1 I 1 (x^2)\n",
+        failing_reads: &[],
+        failing_writes: &[],
+        status: Status::Done,
+        written: b"report 0\nring 2 x\norder grevlex\nideal I = x\nquery 1 class 1 I 1 (x)\nanswer no\ndatum I 1\npart 1 given 1 1 (x)\nd 1 1\npart 2 given 1 0\nd 2 2\npart 3 given 1 1 (1)\ntheta 0 3\ntheta 1 1\ndone 1\nquery 2 class 1 I 1 (x^2)\nanswer yes stage 1\ndatum I 1\npart 1 given 1 1 (x)\nd 1 1\npart 2 given 1 0\nd 2 2\npart 3 given 1 1 (1)\ntheta 0 3\ntheta 1 1\ndone 2\nend report\n",
+    },
+    Row {
+        words: &["decide"],
+        text: b"ring 13 x\nideal I = x\nclass 1 I 5 (1)\nclass 1 I 7 (1)\n",
+        failing_reads: &[],
+        failing_writes: &[],
+        status: Status::Unanswered,
+        written: b"report 0\nring 13 x\norder grevlex\nideal I = x\nquery 1 class 1 I 5 (1)\nunanswered exponents stage 0\ndone 1\nquery 2 class 1 I 7 (1)\nunanswered exponents stage 0\ndone 2\nend report\n",
+    },
+    Row {
+        words: &["decide", "--budget", "1"],
+        text: b"ring 3 x y\nideal I = x*y\nclass 1 I 0 (x^2*y)\n",
+        failing_reads: &[],
+        failing_writes: &[],
+        status: Status::Unanswered,
+        written: b"report 0\nring 3 x y\norder grevlex\nideal I = x*y\nquery 1 class 1 I 0 (x^2*y)\nunanswered budget lift 1\ndone 1\nend report\n",
+    },
+    Row {
+        words: &["decide", "--budget", "0000002"],
+        text: b"ring 3 x y\nideal I = x*y\nclass 1 I 0 (x^2*y)\n",
+        failing_reads: &[],
+        failing_writes: &[],
+        status: Status::Unanswered,
+        written: b"report 0\nring 3 x y\norder grevlex\nideal I = x*y\nquery 1 class 1 I 0 (x^2*y)\nunanswered budget stage 0\ndone 1\nend report\n",
+    },
+    Row {
+        words: &["decide", "--budget", "3"],
+        text: b"ring 3 x y\nideal I = x*y\nclass 1 I 0 (x^2*y)\n",
+        failing_reads: &[],
+        failing_writes: &[],
+        status: Status::Unanswered,
+        written: b"report 0\nring 3 x y\norder grevlex\nideal I = x*y\nquery 1 class 1 I 0 (x^2*y)\nunanswered budget stage 0\ndone 1\nend report\n",
+    },
+    Row {
+        words: &["decide", "--budget", "4000000"],
+        text: b"ring 2 x\norder lex\nideal Z = 0\nideal I = x,0\nclass 1 I 3 (x^8)\nclass 1 I 0 (0)",
+        failing_reads: &[],
+        failing_writes: &[],
+        status: Status::Done,
+        written: b"report 0\nring 2 x\norder lex\nideal Z = 0\nideal I = x\nquery 1 class 1 I 3 (x^8)\nanswer yes stage 3\ndatum I 1\npart 1 given 1 1 (x)\nd 1 1\npart 2 given 1 0\nd 2 2\npart 3 given 1 1 (1)\ntheta 0 3\ntheta 1 1\ndone 1\nquery 2 class 1 I 0 (0)\nanswer yes stage 0\ndatum I 1\npart 1 given 1 1 (x)\nd 1 1\npart 2 given 1 0\nd 2 2\npart 3 given 1 1 (1)\ntheta 0 3\ntheta 1 1\ndone 2\nend report\n",
+    },
+    Row {
+        words: &["decide"],
+        text: b"ring 5 x y\norder deglex\nideal I = x^2-y,0 # a comment\n\nclass 1 I 1 (x^10 - y^5)\r\nclass 1 I 1 (x^10+1)",
+        failing_reads: &[],
+        failing_writes: &[],
+        status: Status::Problem,
+        written: b"line 3: syntax\n",
+    },
+    Row {
+        words: &["decide"],
+        text: b"ring 4 x",
+        failing_reads: &[],
+        failing_writes: &[],
+        status: Status::Problem,
+        written: b"line 1: not a listed prime\n",
+    },
+    Row {
+        words: &["decide"],
+        text: b"",
+        failing_reads: &[],
+        failing_writes: &[],
+        status: Status::Problem,
+        written: b"line 1: syntax\n",
+    },
+    Row {
+        words: &["decide"],
+        text: b"ring 2 x y\nideal I = x\nideal I = y",
+        failing_reads: &[],
+        failing_writes: &[],
+        status: Status::Problem,
+        written: b"line 3: repeated name\n",
+    },
+    Row {
+        words: &["decide"],
+        text: b"ring 2 x\nideal I = x\nzero 2 I",
+        failing_reads: &[],
+        failing_writes: &[],
+        status: Status::Problem,
+        written: b"line 3: degree out of range\n",
+    },
+    Row {
+        words: &["decide"],
+        text: b"ring 2 x\nideal I = x^1001",
+        failing_reads: &[],
+        failing_writes: &[],
+        status: Status::Problem,
+        written: b"line 2: above a limit\n",
+    },
+    Row {
+        words: &["decide"],
+        text: b"ring 2 x\nideal I = x*t",
+        failing_reads: &[],
+        failing_writes: &[],
+        status: Status::Problem,
+        written: b"line 2: unknown name\n",
+    },
+    Row {
+        words: &["decide"],
+        text: b"ring 2 x\nideal I = x\nclass 1 I 0 (x)\nzero 1 I\nbogus",
+        failing_reads: &[],
+        failing_writes: &[],
+        status: Status::Problem,
+        written: b"line 4: not built\n",
+    },
+    Row {
+        words: &["decide"],
+        text: b"ring 2 x\nideal I = x\nclass 1 I 0 (x)\nbogus\nzero 1 I\n",
+        failing_reads: &[],
+        failing_writes: &[],
+        status: Status::Problem,
+        written: b"line 4: syntax\n",
+    },
+    Row {
+        words: &["decide"],
+        text: b"ring 2 x",
+        failing_reads: &[],
+        failing_writes: &[],
+        status: Status::Done,
+        written: b"report 0\nring 2 x\norder grevlex\nend report\n",
+    },
+    Row {
+        words: &["decide"],
+        text: b"ring 3 x y\nideal I = x*y\nclass 1 I 0 (x^2*y)\n",
+        failing_reads: &[2],
+        failing_writes: &[],
+        status: Status::ReadFault,
+        written: b"",
+    },
+    Row {
+        words: &["decide"],
+        text: b"ring 3 x y\nideal I = x*y\nclass 1 I 0 (x^2*y)\n",
+        failing_reads: &[],
+        failing_writes: &[2],
+        status: Status::WriteFault,
+        written: b"report 0\nring 3 ",
+    },
+    Row {
+        words: &["decide", "--budget", "0"],
+        text: b"ring 3 x y\nideal I = x*y\nclass 1 I 0 (x^2*y)\n",
+        failing_reads: &[1],
+        failing_writes: &[],
+        status: Status::Usage,
+        written: b"usage: fmod decide [--budget N] | check | sample N\n",
+    },
+    Row {
+        words: &["decide", "--budget", "4000001"],
+        text: b"ring 3 x y\nideal I = x*y\nclass 1 I 0 (x^2*y)\n",
+        failing_reads: &[1],
+        failing_writes: &[],
+        status: Status::Usage,
+        written: b"usage: fmod decide [--budget N] | check | sample N\n",
+    },
+    Row {
+        words: &["decide", "--budget", "00000001"],
+        text: b"ring 3 x y\nideal I = x*y\nclass 1 I 0 (x^2*y)\n",
+        failing_reads: &[1],
+        failing_writes: &[],
+        status: Status::Usage,
+        written: b"usage: fmod decide [--budget N] | check | sample N\n",
+    },
+    Row {
+        words: &["decide", "--budget", "1x"],
+        text: b"ring 3 x y\nideal I = x*y\nclass 1 I 0 (x^2*y)\n",
+        failing_reads: &[1],
+        failing_writes: &[],
+        status: Status::Usage,
+        written: b"usage: fmod decide [--budget N] | check | sample N\n",
+    },
+    Row {
+        words: &["decide", "--budget", ""],
+        text: b"ring 3 x y\nideal I = x*y\nclass 1 I 0 (x^2*y)\n",
+        failing_reads: &[1],
+        failing_writes: &[],
+        status: Status::Usage,
+        written: b"usage: fmod decide [--budget N] | check | sample N\n",
+    },
+    Row {
+        words: &["decide", "--budget"],
+        text: b"ring 3 x y\nideal I = x*y\nclass 1 I 0 (x^2*y)\n",
+        failing_reads: &[1],
+        failing_writes: &[],
+        status: Status::Usage,
+        written: b"usage: fmod decide [--budget N] | check | sample N\n",
+    },
+    Row {
+        words: &["decide", "--Budget", "1"],
+        text: b"ring 3 x y\nideal I = x*y\nclass 1 I 0 (x^2*y)\n",
+        failing_reads: &[1],
+        failing_writes: &[],
+        status: Status::Usage,
+        written: b"usage: fmod decide [--budget N] | check | sample N\n",
+    },
+    Row {
+        words: &["decide", "--budget", "1", "1"],
+        text: b"ring 3 x y\nideal I = x*y\nclass 1 I 0 (x^2*y)\n",
+        failing_reads: &[1],
+        failing_writes: &[],
+        status: Status::Usage,
+        written: b"usage: fmod decide [--budget N] | check | sample N\n",
+    },
+    Row {
+        words: &[],
+        text: b"ring 3 x y\nideal I = x*y\nclass 1 I 0 (x^2*y)\n",
+        failing_reads: &[1],
+        failing_writes: &[],
+        status: Status::Usage,
+        written: b"usage: fmod decide [--budget N] | check | sample N\n",
+    },
+    Row {
+        words: &["Decide"],
+        text: b"ring 3 x y\nideal I = x*y\nclass 1 I 0 (x^2*y)\n",
+        failing_reads: &[1],
+        failing_writes: &[1],
+        status: Status::WriteFault,
+        written: b"",
+    },
+];
+
+fn words_of(alloc: Global, words: &[&str]) -> Result<Vec<String>, Fail> {
+    let mut all = Vec::new(alloc);
+    for word in words {
+        all.push(word.to_string(alloc)?)?;
+    }
+    Ok(all)
+}
+
+#[test]
+fn answers_words_and_texts(rt: HostRuntime) -> Result<(), Fail> {
+    for row in ROWS {
+        let words = words_of(rt.alloc(), row.words)?;
+        let mut source = MemorySource::new(
+            row.text.to_vec(rt.alloc())?,
+            1000,
+            row.failing_reads.to_vec(rt.alloc())?,
+        );
+        let mut sink = MemorySink::new(
+            rt.alloc(),
+            4000,
+            16,
+            row.failing_writes.to_vec(rt.alloc())?,
+        )?;
+        assert_eq!(rt; run(rt.alloc(), &words, &mut source, &mut sink), row.status);
+        assert_eq!(rt; sink.taken(), row.written);
+    }
+    Ok(())
+}
+
+#[test]
+fn refuses_a_problem_above_the_limit(rt: HostRuntime) -> Result<(), Fail> {
+    let words = words_of(rt.alloc(), &["decide"])?;
+    for (length, status, written) in [
+        (1_048_576, Status::Problem, b"line 2: syntax\n".as_slice()),
+        (1_048_577, Status::TooLong, b"".as_slice()),
+    ] {
+        let text = vec![in rt.alloc(); b' '; length]?;
+        let mut source = MemorySource::new(text, 100_000, Vec::new(rt.alloc()));
+        let mut sink = MemorySink::new(rt.alloc(), 1000, 16, Vec::new(rt.alloc()))?;
+        assert_eq!(rt; run(rt.alloc(), &words, &mut source, &mut sink), status);
+        assert_eq!(rt; sink.taken(), written);
+    }
+    Ok(())
+}
