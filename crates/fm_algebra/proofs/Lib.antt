@@ -17,6 +17,7 @@ pub mod MatrixLaws
 pub mod Monomial
 pub mod Poly
 pub mod PolyRing
+pub mod Places
 pub mod PolySlices
 pub mod PolynomialMatrices
 pub mod Series

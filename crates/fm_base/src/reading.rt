@@ -2,7 +2,7 @@
 ghost use Rattle.std.specs.Prelude.{◌≡◌, ◌+◌, ◌<◌, ◌≤◌, length, IfOk, IfSome, OnOk, IsErrOf};
 ghost use Rattle.std.specs.Io.KnownBytes.{IsAtEnd};
 ghost use Rattle.fm_base.specs.Causes.{Rose};
-ghost use Rattle.fm_base.specs.Parts.{ConsumesPart, ConsumesCount};
+ghost use Rattle.fm_base.specs.Parts.{ConsumesAtMost, ConsumesCount, ConsumesPart};
 
 use crate::{Failed, ReadError, Source};
 use std::alloc::Global;
@@ -30,6 +30,7 @@ pub fn read_all<S: Source>(
     // the causes
     ensures long { IsErrOf result ReadError.TooLong → ConsumesCount (S.left source.old) (S.left source.new) (limit + 1) }
     ensures fault { IsErrOf result ReadError.ReadFault → Rose (S.faults source.old) (S.faults source.new) }
+    ensures early { IsErrOf result ReadError.ReadFault → ConsumesAtMost (S.left source.old) (S.left source.new) limit }
     ensures later { S.faults source.old ≤ S.faults source.new }
 {
     let mut bytes = Vec::new(alloc);
@@ -83,6 +84,31 @@ mod tests {
         let mut source = SteadySource::new(text.as_slice().to_vec(rt.alloc())?);
         let bytes = read_all(rt.alloc(), &mut source, 20000)?;
         assert_eq!(rt; bytes.as_slice(), text.as_slice());
+        Ok(())
+    }
+
+    // Each read offers 8,192 bytes or what is left up to one byte past the limit; the number of a failing call tells how many
+    // reads there were.
+    #[test]
+    fn reads_slices_of_8192_bytes(rt: HostRuntime) -> Result<(), Fail> {
+        let rows: [(usize, usize, u64, bool, bool); 8] = [
+            (16_384, 20_000, 3, true, false),
+            (16_384, 20_000, 4, false, false),
+            (16_385, 20_000, 4, true, false),
+            (20_000, 20_000, 5, false, false),
+            (20_000, 19_999, 3, true, false),
+            (20_000, 19_999, 4, false, true),
+            (20_000, 8_191, 1, true, false),
+            (20_000, 8_191, 2, false, true),
+        ];
+        for (length, limit, failing, fault, long) in rows {
+            let bytes = vec![in rt.alloc(); 7u8; length]?;
+            let numbers = [failing].as_slice().to_vec(rt.alloc())?;
+            let mut source = MemorySource::new(bytes, 100_000, numbers);
+            let result = read_all(rt.alloc(), &mut source, limit);
+            assert_eq!(rt; matches!(result, Err(ReadError::ReadFault)), fault);
+            assert_eq!(rt; matches!(result, Err(ReadError::TooLong)), long);
+        }
         Ok(())
     }
 

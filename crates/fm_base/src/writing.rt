@@ -32,6 +32,18 @@ mod tests {
     use crate::MemorySink;
     use std::test::Fail;
 
+    // Each write offers all that is left: a sink that takes all of a slice is called once.
+    #[test]
+    fn offers_all_that_is_left(rt: HostRuntime) -> Result<(), Fail> {
+        let text = vec![in rt.alloc(); 7u8; 100_000]?;
+        for (failing, whole) in [(1u64, false), (2u64, true)] {
+            let numbers = [failing].as_slice().to_vec(rt.alloc())?;
+            let mut sink = MemorySink::new(rt.alloc(), 200_000, 200_000, numbers)?;
+            assert_eq!(rt; write_all(&mut sink, &text).is_ok(), whole);
+        }
+        Ok(())
+    }
+
     #[test]
     fn writes_in_pieces_and_stops_at_a_fault(rt: HostRuntime) -> Result<(), Fail> {
         let text = b"report 1\nring 3 x y\n".as_slice();

@@ -6,18 +6,18 @@ use Rattle.std.specs.declared.cmp.Ordering.{Ordering}
 use Rattle.std.specs.declared.cmp.Ordering.TheVariants.{Less, Equal, Greater}
 use Rattle.fm_tuple.specs.Tuple.{tuple_difference}
 use Rattle.fm_gfp.specs.Primes.{prime_value}
-use Rattle.fm_mono.specs.declared.exponent.TheConstants.{EXPONENT_BOUND}
-use Rattle.fm_mono.specs.Bounded.{is_bounded}
+use Rattle.fm_mono.specs.Bounded.{exponent_bound, is_bounded}
 use Rattle.fm_poly.specs.declared.ring.Ring.{Ring}
 use Rattle.fm_poly.specs.Polys.{pairs}
 use Rattle.fm_poly.specs.Texts.{AreWithinBound}
-use Rattle.fm_vec.specs.declared.vterm.VTerm.{VTerm}
-use Rattle.fm_vec.specs.Places.{place_cmp}
-use Rattle.fm_vec.specs.Multiples.{negated, put, put_at, times_term, plus_multiple, multiple_fits, twisted, twist_fits}
+use Rattle.fm_term.specs.declared.vterm.VTerm.{VTerm}
+use Rattle.fm_term.specs.Places.{term_cmp}
+use Rattle.fm_term.specs.Multiples.{multiple_term, twisted}
+use Rattle.fm_vec.specs.Multiples.{negated, put, put_at, plus_multiple, multiple_fits, twist_fits}
 use Rattle.fm_complete.specs.declared.step.Step.{Step}
-use Rattle.fm_complete.specs.declared.stop.Stop.{Stop}
-use Rattle.fm_complete.specs.declared.stop.Stop.TheVariants.{Budget, Exponent}
-use Rattle.fm_complete.specs.Runs.{Ended}
+use Rattle.fm_run.specs.Runs.{Halt}
+use Rattle.fm_run.specs.Runs.{Budget, Exponent}
+use Rattle.fm_run.specs.Runs.{Ended}
 use Rattle.fm_complete.specs.Divisors.{first_step}
 use Rattle.fm_complete.specs.Reductions.{Reduced, cancelled, stepped, without_units, with_unit, reduced, divided}
 use Rattle.fm_complete.specs.Divisions.{quotient_terms}
@@ -37,13 +37,13 @@ difference_bounded [] b h = refl
 difference_bounded (i ∷ a) [] h = refl
 difference_bounded (i ∷ a) (j ∷ b) h = let h = and_parts _ _ h in and_from _ _ (less i j h.0) (difference_bounded a b h.1)
   where
-    less : (i j : ℕ) → nat_le i EXPONENT_BOUND ≡ true → nat_le (i - j) EXPONENT_BOUND ≡ true
+    less : (i j : ℕ) → nat_le i exponent_bound ≡ true → nat_le (i - j) exponent_bound ≡ true
     less i j h = grind (arith, nat_tests)
 
 module _ (r : Ring) where
   put_bounded : (t : VTerm) (us : List VTerm) → is_bounded t.mono ≡ true → AllBounded us → AllBounded (put r t us)
   put_bounded t [] h w = (h, tt)
-  put_bounded t (u ∷ us) h w = go (place_cmp r.order u t) (put_bounded t us h w.1)
+  put_bounded t (u ∷ us) h w = go (term_cmp r.order u t) (put_bounded t us h w.1)
     where
       summed : (b : Bool) → AllBounded ((if b then [] else record { component = t.component; mono = t.mono; coeff = (u.coeff + t.coeff) % prime_value r.prime } ∷ []) ++ us)
       summed true = w.1
@@ -56,18 +56,18 @@ module _ (r : Ring) where
 
   plus_bounded : (d : ℕ) (m : List ℕ) (g f : List VTerm) → multiple_fits m g ≡ true → AllBounded f → AllBounded (plus_multiple r d m g f)
   plus_bounded d m [] f h w = w
-  plus_bounded d m (t ∷ g) f h w = let h = and_parts _ _ h in put_bounded (times_term r d m t) (plus_multiple r d m g f) h.0 (plus_bounded d m g f h.1 w)
+  plus_bounded d m (t ∷ g) f h w = let h = and_parts _ _ h in put_bounded (multiple_term r.prime d m t) (plus_multiple r d m g f) h.0 (plus_bounded d m g f h.1 w)
 
   module _ (members : List (List VTerm)) where
     -- the quotients of a run that ends
-    abbrev Within : Result Reduced Stop → Type 0
+    abbrev Within : Result Reduced Halt → Type 0
     Within (Ok x) = (number : ℕ) → AreWithinBound (pairs (quotient_terms number x.steps))
     Within (Err e) = Unit {0}
 
     within_stepped : (s : Step) (d : Ended Reduced) → is_bounded s.mono ≡ true → Within d.end → Within (stepped s d).end
     within_stepped s d b h = go d.end h
       where
-        go : (e : Result Reduced Stop) → Within e → Within (stepped s (record { end = e; left = d.left })).end
+        go : (e : Result Reduced Halt) → Within e → Within (stepped s (record { end = e; left = d.left })).end
         go (Err e) h = tt
         go (Ok x) h = λ number. more number (s.number == number) (h number)
           where
@@ -108,6 +108,6 @@ module _ (r : Ring) where
         → (number : ℕ) → AreWithinBound (pairs (quotient_terms number x.steps))
     quotients_bounded zero left v x w e = absurd (stopped_first (ap (λ (d : Ended Reduced). d.end) e))
       where
-        stopped_first : ◌≡◌ {A = Result Reduced Stop} (Err Budget) (Ok x) → ⊥
+        stopped_first : ◌≡◌ {A = Result Reduced Halt} (Err Budget) (Ok x) → ⊥
         stopped_first h = cc
     quotients_bounded (suc u) left v x w e = subst Within (ap (λ (d : Ended Reduced). d.end) e) (within u v w)

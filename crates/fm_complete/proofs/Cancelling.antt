@@ -11,11 +11,13 @@ use Rattle.fm_gfp.specs.Primes.{prime_value}
 use Rattle.fm_gfp.proofs.Residues.{prime_positive, inverse_exists, inverse_positive}
 use Rattle.fm_mono.specs.Orders.{monomial_cmp}
 use Rattle.fm_poly.specs.declared.ring.Ring.{Ring}
-use Rattle.fm_vec.specs.declared.vterm.VTerm.{VTerm}
-use Rattle.fm_vec.specs.Places.{place_cmp, AllBelow}
-use Rattle.fm_vec.specs.Vectors.{IsTerm, AreTerms, IsVector}
-use Rattle.fm_vec.specs.Multiples.{negated, inverse_of, sum_term, put, times_term, multiple, plus_multiple}
-use Rattle.fm_vec.proofs.Places.{place_total}
+use Rattle.fm_term.specs.declared.vterm.VTerm.{VTerm}
+use Rattle.fm_term.specs.Places.{term_cmp, AllBelow}
+use Rattle.fm_term.specs.Falling.{IsTerm, AreTerms}
+use Rattle.fm_vec.specs.Vectors.{IsVector}
+use Rattle.fm_term.specs.Multiples.{multiple_term, multiple}
+use Rattle.fm_vec.specs.Multiples.{negated, inverse_of, sum_term, put, plus_multiple}
+use Rattle.fm_term.proofs.Places.{place_total}
 use Rattle.fm_vec.proofs.Adding.{below_same, below_plus, below_multiple, plus_pass, put_tie}
 use Rattle.fm_vec.proofs.Proper.{inverse_is, product_positive, negated_positive, plus_vector}
 use Rattle.fm_complete.specs.declared.step.Step.{Step}
@@ -43,13 +45,13 @@ cancels p a b c d below negative product =
     whole e h = gathered e ∙ ap (λ z. z * b) h
 
 -- the inverse that the power by p - 2 gives
-inverse_one : (r : Ring) (b : ℕ) → 0 < b → b < prime_value r.prime → (b * inverse_of r b) % prime_value r.prime ≡ 1
+pub inverse_one : (r : Ring) (b : ℕ) → 0 < b → b < prime_value r.prime → (b * inverse_of r b) % prime_value r.prime ≡ 1
 inverse_one r b some below =
     let found = inverse_exists r.prime b some below in
     ap (λ x. (b * x) % prime_value r.prime) (sym (inverse_is r.prime b found.0 some below found.1 found.2)) ∙ found.2
 
 -- the coefficient of a step times that of the member's head
-step_product : (r : Ring) (a b : ℕ) → 0 < b → b < prime_value r.prime → (((a * inverse_of r b) % prime_value r.prime) * b) % prime_value r.prime ≡ a % prime_value r.prime
+pub step_product : (r : Ring) (a b : ℕ) → 0 < b → b < prime_value r.prime → (((a * inverse_of r b) % prime_value r.prime) * b) % prime_value r.prime ≡ a % prime_value r.prime
 step_product r a b some below =
     mul-mod_first (a * inverse_of r b) b m ∙ ap (λ z. z % m) (regrouped a b (inverse_of r b)) ∙ sym (mul-mod_second a (b * inverse_of r b) m)
     ∙ ap (λ z. (a * z) % m) (inverse_one r b some below) ∙ ap (λ z. z % m) (once a)
@@ -70,7 +72,7 @@ pub inverse_some : (r : Ring) (b : ℕ) → 0 < b → b < prime_value r.prime �
 inverse_some r b some below = inverse_positive r.prime b (inverse_of r b) (inverse_one r b some below)
 
 -- ---- a step
-module _ (r : Ring) (number : ℕ) (b t : VTerm) (b_term : IsTerm r b) (t_term : IsTerm r t) (divides : term_divides b t ≡ true) where
+module _ (r : Ring) (number : ℕ) (b t : VTerm) (b_term : IsTerm r.prime r.vars b) (t_term : IsTerm r.prime r.vars t) (divides : term_divides b t ≡ true) where
   abbrev s : Step
   s = step_for r number b t
 
@@ -93,29 +95,29 @@ module _ (r : Ring) (number : ℕ) (b t : VTerm) (b_term : IsTerm r b) (t_term :
   step_length = length_entrywise ◌-◌ t.mono b.mono (sym same_length) ∙ t_term.fits
 
   -- the step's term times the head of the member stands in the place of t
-  pub tie : (d : ℕ) → place_cmp r.order t (times_term r d s.mono b) ≡ Equal
+  pub tie : (d : ℕ) → term_cmp r.order t (multiple_term r.prime d s.mono b) ≡ Equal
   tie d =
       ap₂ (λ c m. ordering_then (nat_cmp c t.component) (monomial_cmp r.order t.mono m)) (divides_component b t divides) step_product_mono
       ∙ tied_itself (place_total r.order) t
 
-  pub tie_turned : (d : ℕ) → place_cmp r.order (times_term r d s.mono b) t ≡ Equal
-  tie_turned d = (place_total r.order).antisymm (times_term r d s.mono b) t ∙ ap ordering_reverse (tie d)
+  pub tie_turned : (d : ℕ) → term_cmp r.order (multiple_term r.prime d s.mono b) t ≡ Equal
+  tie_turned d = (place_total r.order).antisymm (multiple_term r.prime d s.mono b) t ∙ ap ordering_reverse (tie d)
 
-  no_sum : sum_term r t (times_term r minus s.mono b) ≡ []
+  no_sum : sum_term r t (multiple_term r.prime minus s.mono b) ≡ []
   no_sum =
       ap (λ z. if z == 0 then [] else record { component = b.component; mono = tuple_sum s.mono b.mono; coeff = z } ∷ [])
       (cancels (prime_value r.prime) t.coeff b.coeff s.coeff minus step_below refl (step_product r t.coeff b.coeff b_term.positive b_term.below))
 
-  module _ (bs ts : List VTerm) (terms : AreTerms r bs) (b_above : AllBelow r.order b bs) (t_above : AllBelow r.order t ts) where
-    below_member : AllBelow r.order t (multiple r minus s.mono bs)
-    below_member = below_same r.order t (times_term r minus s.mono b) (multiple r minus s.mono bs) (tie minus)
+  module _ (bs ts : List VTerm) (terms : AreTerms r.prime r.vars bs) (b_above : AllBelow r.order b bs) (t_above : AllBelow r.order t ts) where
+    below_member : AllBelow r.order t (multiple r.prime minus s.mono bs)
+    below_member = below_same r.order t (multiple_term r.prime minus s.mono b) (multiple r.prime minus s.mono bs) (tie minus)
         (below_multiple r minus s.mono b bs step_length b_term terms b_above)
 
     -- the heads cancel
     pub cancelled_is : cancelled r (s, b ∷ bs) (t ∷ ts) ≡ plus_multiple r minus s.mono bs ts
     cancelled_is =
-        ap (put r (times_term r minus s.mono b)) (plus_pass r minus s.mono t bs ts below_member)
-        ∙ put_tie r (times_term r minus s.mono b) t (plus_multiple r minus s.mono bs ts) (tie minus)
+        ap (put r (multiple_term r.prime minus s.mono b)) (plus_pass r minus s.mono t bs ts below_member)
+        ∙ put_tie r (multiple_term r.prime minus s.mono b) t (plus_multiple r minus s.mono bs ts) (tie minus)
         ∙ ap (λ z. z ++ plus_multiple r minus s.mono bs ts) no_sum
 
     pub cancelled_below : AllBelow r.order t (cancelled r (s, b ∷ bs) (t ∷ ts))

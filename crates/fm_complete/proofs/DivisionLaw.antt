@@ -6,14 +6,14 @@ use Rattle.fm_tuple.specs.Tuple.{TupleDivides}
 use Rattle.fm_poly.specs.declared.ring.Ring.{Ring}
 use Rattle.fm_poly.specs.Polys.{meaning}
 use Rattle.fm_poly.proofs.OrderedTerms.{meaning_cons, meaning_empty}
-use Rattle.fm_vec.specs.declared.vterm.VTerm.{VTerm}
+use Rattle.fm_term.specs.declared.vterm.VTerm.{VTerm}
 use Rattle.fm_vec.specs.Vectors.{IsVector}
 use Rattle.fm_vec.specs.Multiples.{multiple_fits}
 use Rattle.fm_vec.proofs.Meaning.{nothing, plus, times, term, part, nothing_plus, plus_assoc, plus_left_comm, plus_times, nothing_times, negated_part}
 use Rattle.fm_complete.specs.declared.step.Step.{Step}
-use Rattle.fm_complete.specs.declared.stop.Stop.{Stop}
-use Rattle.fm_complete.specs.declared.stop.Stop.TheVariants.{Budget, Exponent}
-use Rattle.fm_complete.specs.Runs.{Ended}
+use Rattle.fm_run.specs.Runs.{Halt}
+use Rattle.fm_run.specs.Runs.{Budget, Exponent}
+use Rattle.fm_run.specs.Runs.{Ended}
 use Rattle.fm_complete.specs.Divisors.{tuple_divides, term_divides, step_for, first_step, next_step}
 use Rattle.fm_complete.specs.Reductions.{Reduced, cancelled, stepped, without_units, with_unit, reduced, divided}
 use Rattle.fm_complete.specs.Divisions.{quotient_terms}
@@ -115,7 +115,7 @@ module _ (r : Ring) (n : ℕ) where
     pub reduced : IsReduced members x.rest
     pub vector : IsVector r n x.rest
 
-  abbrev pub Says : List (List VTerm) → List VTerm → Result Reduced Stop → Type 0
+  abbrev pub Says : List (List VTerm) → List VTerm → Result Reduced Halt → Type 0
   Says members v (Ok x) = Divided members v x
   Says members v (Err e) = Unit {0}
 
@@ -150,7 +150,7 @@ module _ (r : Ring) (n : ℕ) where
         → Says members (cancelled r (s, g) (t ∷ ts)) d.end → Says members (t ∷ ts) (stepped s d).end
     says_stepped t ts s g f w d h = go d.end h
       where
-        go : (e : Result Reduced Stop) → Says members (cancelled r (s, g) (t ∷ ts)) e → Says members (t ∷ ts) (stepped s (record { end = e; left = d.left })).end
+        go : (e : Result Reduced Halt) → Says members (cancelled r (s, g) (t ∷ ts)) e → Says members (t ∷ ts) (stepped s (record { end = e; left = d.left })).end
         go (Err e) h = tt
         go (Ok x) h = record {
           whole = λ k.
@@ -188,6 +188,6 @@ module _ (r : Ring) (n : ℕ) where
     pub division_says : (u left : ℕ) (v : List VTerm) (x : Reduced) → IsVector r n v → divided r members u v ≡ record { end = Ok x; left = left } → Divided members v x
     division_says zero left v x w e = absurd (stopped_first (ap (λ (d : Ended Reduced). d.end) e))
       where
-        stopped_first : ◌≡◌ {A = Result Reduced Stop} (Err Budget) (Ok x) → ⊥
+        stopped_first : ◌≡◌ {A = Result Reduced Halt} (Err Budget) (Ok x) → ⊥
         stopped_first h = cc
     division_says (suc u) left v x w e = subst (Says members v) (ap (λ (d : Ended Reduced). d.end) e) (says u v w)

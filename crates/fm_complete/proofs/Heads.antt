@@ -6,10 +6,10 @@ use Rattle.fm_tuple.specs.Tuple.{TupleDivides, tuple_sum, tuple_difference}
 use Rattle.fm_tuple.proofs.Tuples.{tuple_sum_difference, tuple_sum_comm}
 use Rattle.fm_tuple.proofs.TupleEntries.{length_entrywise}
 use Rattle.fm_poly.specs.declared.ring.Ring.{Ring}
-use Rattle.fm_vec.specs.declared.vterm.VTerm.{VTerm}
+use Rattle.fm_term.specs.declared.vterm.VTerm.{VTerm}
 use Rattle.fm_complete.specs.declared.step.Step.{Step}
 use Rattle.fm_complete.specs.Divisors.{tuple_divides, term_divides, step_for, first_step, next_step}
-use Rattle.fm_vec.specs.Vectors.{head_of}
+use Rattle.fm_term.specs.Falling.{head_of}
 use Rattle.fm_complete.specs.Trails.{member_at}
 
 -- ---- the test

@@ -11,8 +11,9 @@ use Rattle.fm_poly.specs.declared.term.Term.{Term}
 use Rattle.fm_poly.specs.Polys.{meaning, IsCanonical}
 use Rattle.fm_poly.proofs.OrderedTerms.{monomial_order}
 use Rattle.fm_poly.proofs.KeptTerms.{zero_list, first_term_head, head_of_product, one_head}
-use Rattle.fm_vec.specs.declared.vterm.VTerm.{VTerm}
-use Rattle.fm_vec.specs.Vectors.{AreWithin, IsVector}
+use Rattle.fm_term.specs.declared.vterm.VTerm.{VTerm}
+use Rattle.fm_term.specs.Falling.{AreWithin}
+use Rattle.fm_vec.specs.Vectors.{IsVector}
 use Rattle.fm_vec.specs.Components.{component_terms, component_meaning}
 use Rattle.fm_vec.proofs.Components.{component_canonical}
 use Rattle.fm_vec.proofs.Meaning.{Value, nothing, plus, times, part, part_none, nothing_plus, plus_nothing, plus_assoc, plus_times, nothing_times}

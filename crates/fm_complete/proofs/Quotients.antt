@@ -2,13 +2,13 @@
 use Rattle.std.proofs.Common.{ℕ, zero, suc, ◌≡◌, if◌then◌else◌, Bool, true, false, List, [], ◌∷◌, ◌++◌, Option, Some, None, Result, Ok, Err, refl, sym, ap, subst, append_assoc, append-nil}
 use Rattle.fm_poly.specs.declared.ring.Ring.{Ring}
 use Rattle.fm_poly.specs.Polys.{IsCanonical}
-use Rattle.fm_vec.specs.declared.vterm.VTerm.{VTerm}
+use Rattle.fm_term.specs.declared.vterm.VTerm.{VTerm}
 use Rattle.fm_vec.specs.Vectors.{IsVector}
 use Rattle.fm_vec.specs.Multiples.{multiple_fits}
 use Rattle.fm_complete.specs.declared.step.Step.{Step}
-use Rattle.fm_complete.specs.declared.stop.Stop.{Stop}
-use Rattle.fm_complete.specs.declared.stop.Stop.TheVariants.{Budget, Exponent}
-use Rattle.fm_complete.specs.Runs.{Ended}
+use Rattle.fm_run.specs.Runs.{Halt}
+use Rattle.fm_run.specs.Runs.{Budget, Exponent}
+use Rattle.fm_run.specs.Runs.{Ended}
 use Rattle.fm_complete.specs.Divisors.{first_step}
 use Rattle.fm_complete.specs.Reductions.{Reduced, cancelled, stepped, without_units, with_unit, reduced, divided}
 use Rattle.fm_complete.specs.Divisions.{quotient_terms}
@@ -20,7 +20,7 @@ use Rattle.fm_complete.proofs.DivisionLaw.{member_vector, left_over}
 
 module _ (r : Ring) (n : ℕ) (members : List (List VTerm)) (vectors : AreVectors r n members) where
   -- the quotients by these steps and those of the run
-  abbrev Fall : List Step → Result Reduced Stop → Type 0
+  abbrev Fall : List Step → Result Reduced Halt → Type 0
   Fall ss (Ok x) = (number : ℕ) → IsCanonical r (quotient_terms number (ss ++ x.steps))
   Fall ss (Err e) = Unit {0}
 
@@ -30,7 +30,7 @@ module _ (r : Ring) (n : ℕ) (members : List (List VTerm)) (vectors : AreVector
   fall_stepped : (ss : List Step) (s : Step) (d : Ended Reduced) → Fall (ss ++ s ∷ []) d.end → Fall ss (stepped s d).end
   fall_stepped ss s d h = go d.end h
     where
-      go : (e : Result Reduced Stop) → Fall (ss ++ s ∷ []) e → Fall ss (stepped s (record { end = e; left = d.left })).end
+      go : (e : Result Reduced Halt) → Fall (ss ++ s ∷ []) e → Fall ss (stepped s (record { end = e; left = d.left })).end
       go (Err e) h = tt
       go (Ok x) h = λ number. subst (λ y. IsCanonical r (quotient_terms number y)) (append_assoc ss (s ∷ []) x.steps) (h number)
 
@@ -64,6 +64,6 @@ module _ (r : Ring) (n : ℕ) (members : List (List VTerm)) (vectors : AreVector
       → (number : ℕ) → IsCanonical r (quotient_terms number x.steps)
   quotients_fall zero left v x w e = absurd (stopped_first (ap (λ (d : Ended Reduced). d.end) e))
     where
-      stopped_first : ◌≡◌ {A = Result Reduced Stop} (Err Budget) (Ok x) → ⊥
+      stopped_first : ◌≡◌ {A = Result Reduced Halt} (Err Budget) (Ok x) → ⊥
       stopped_first h = cc
   quotients_fall (suc u) left v x w e = subst (Fall []) (ap (λ (d : Ended Reduced). d.end) e) (fall u [] v w (trail_start r members v))

@@ -1,19 +1,19 @@
 -- The turns of the head reductions against the definition of the run
-use Rattle.std.proofs.Common.{ℕ, zero, suc, ◌+◌, ◌-◌, ◌<◌, ◌≡◌, if◌then◌else◌, true, false, List, [], ◌∷◌, ◌++◌, Option, Some, None, Result, Ok, Err, refl, sym, ap, ap₂, ◌∙◌, subst, append_assoc, append-nil, arith}
+use Rattle.std.proofs.Common.{ℕ, zero, suc, ◌+◌, ◌-◌, ◌<◌, ◌≤◌, ◌≡◌, if◌then◌else◌, Bool, true, false, List, [], ◌∷◌, ◌++◌, Option, Some, None, Result, Ok, Err, refl, sym, ap, ap₂, ◌∙◌, subst, append_assoc, append-nil, arith}
 use Rattle.fm_poly.specs.declared.ring.Ring.{Ring}
-use Rattle.fm_vec.specs.declared.vterm.VTerm.{VTerm}
+use Rattle.fm_term.specs.declared.vterm.VTerm.{VTerm}
 use Rattle.fm_vec.specs.Multiples.{multiple_fits}
 use Rattle.fm_complete.specs.declared.step.Step.{Step}
-use Rattle.fm_complete.specs.declared.stop.Stop.{Stop}
-use Rattle.fm_complete.specs.declared.stop.Stop.TheVariants.{Budget, Exponent, Memory}
-use Rattle.fm_complete.specs.Runs.{Ended, Follows}
+use Rattle.fm_run.specs.Runs.{Halt, Budget, Exponent, Ended}
 use Rattle.fm_complete.specs.Divisors.{first_step, next_step}
-use Rattle.fm_vec.specs.Vectors.{IsVector, head_of}
+use Rattle.fm_term.specs.Falling.{head_of}
+use Rattle.fm_vec.specs.Vectors.{IsVector}
 use Rattle.fm_complete.specs.Reductions.{Reduced, cancelled, stepped, finished, without_units, with_unit, reduced}
 use Rattle.fm_poly.specs.declared.term.Term.{Term}
 use Rattle.fm_poly.specs.Polys.{PolyValue}
 use Rattle.fm_complete.specs.Divisions.{quotient_terms, quotients_from}
 use Rattle.fm_complete.specs.Trails.{IsTrail, ahead}
+use Rattle.fm_complete.proofs.Spending.{reduced_spends}
 use Rattle.fm_complete.proofs.Heads.{next_is, has_tail, found}
 use Rattle.fm_complete.proofs.Trails.{trail_next}
 
@@ -21,7 +21,7 @@ use Rattle.fm_complete.proofs.Trails.{trail_next}
 ahead_stepped : (steps : List Step) (s : Step) (d : Ended Reduced) → ahead steps (stepped s d) ≡ ahead (steps ++ s ∷ []) d
 ahead_stepped steps s d = go d.end
   where
-    go : (e : Result Reduced Stop)
+    go : (e : Result Reduced Halt)
         → ◌≡◌ {A = Ended Reduced} (ahead steps (stepped s (record { end = e; left = d.left }))) (ahead (steps ++ s ∷ []) (record { end = e; left = d.left }))
     go (Ok x) = λ i. record { end = Ok (record { steps = sym (append_assoc steps (s ∷ []) x.steps) i; rest = x.rest }); left = d.left }
     go (Err e) = refl
@@ -65,10 +65,26 @@ module _ (r : Ring) (members : List (List VTerm)) where
       ∙ sym (ap (λ b. ahead steps (if b then stepped p.0 (reduced r members u' (cancelled r p v)) else record { end = Err Exponent; left = u' })) fits)
       ∙ sym (stepped_at steps u u' v p e paid) ∙ whole
 
+  -- no more is left at the end than now, also once the unit of a step is spent
+  pub leaves : (steps : List Step) (u : ℕ) (v : List VTerm) (all : Ended Reduced) → ahead steps (reduced r members u v) ≡ all → all.left ≤ u
+  leaves steps u v all whole = let h = reduced_spends r members v u in let k : (reduced r members u v).left ≡ all.left = ap (λ (d : Ended Reduced). d.left) whole in omega (arith, h, k)
+
+  pub step_leaves : (steps : List Step) (u u' : ℕ) (v : List VTerm) (all : Ended Reduced) (p : Step × List VTerm) → next_step r members v ≡ Some p → u ≡ u' + 1
+      → ahead steps (reduced r members u v) ≡ all → all.left ≤ u'
+  step_leaves steps u u' v all p e paid whole =
+      let h = of (multiple_fits p.0.mono p.1) in
+      let k : (ahead steps (if multiple_fits p.0.mono p.1 then stepped p.0 (reduced r members u' (cancelled r p v)) else record { end = Err Exponent; left = u' })).left ≡ all.left =
+      ap (λ (d : Ended Reduced). d.left) (sym (stepped_at steps u u' v p e paid) ∙ whole) in
+      omega (arith, h, k)
+    where
+      of : (b : Bool) → (ahead steps (if b then stepped p.0 (reduced r members u' (cancelled r p v)) else record { end = Err Exponent; left = u' })).left ≤ u'
+      of true = reduced_spends r members (cancelled r p v) u'
+      of false = omega arith
+
 pub ahead_none : (d : Ended Reduced) → ahead [] d ≡ d
 ahead_none d = go d.end
   where
-    go : (e : Result Reduced Stop) → ◌≡◌ {A = Ended Reduced} (ahead [] (record { end = e; left = d.left })) (record { end = e; left = d.left })
+    go : (e : Result Reduced Halt) → ◌≡◌ {A = Ended Reduced} (ahead [] (record { end = e; left = d.left })) (record { end = e; left = d.left })
     go (Ok x) = refl
     go (Err e) = refl
 
@@ -88,13 +104,6 @@ module _ (r : Ring) (members : List (List VTerm)) (ss : List Step) (v : List VTe
       subst (λ x. IsTrail r members x w) (sym pushed) (subst (IsTrail r members (ss ++ s ∷ [])) (sym (left_at ∙ ap (cancelled r (s, g)) whole.1))
       (trail_next r members n ss s g h whole.0 (found r members h s g step) g_vector
       (subst (λ x. IsVector x n (h ∷ whole.0)) ring (subst (IsVector q n) whole.1 v_vector)) (subst (IsTrail r members ss) whole.1 trail)))
-
--- a call that stopped otherwise than for want of units
-pub stopped : {X A : Type 0} (view : X → A) (e : Stop) (left : ℕ) (all : Ended A) → (e ≡ Budget → ⊥) → (e ≡ Exponent → all ≡ record { end = Err Exponent; left = left })
-    → Follows view (Err e) left all
-stopped view Budget left all never passes = absurd (never refl)
-stopped view Exponent left all never passes = passes refl
-stopped view Memory left all never passes = tt
 
 -- ---- the quotients, one more
 pub quotients_more : (r : Ring) (count k : ℕ) (ss : List Step) (out out' all : List PolyValue) (q : PolyValue) (terms : List Term) → k < count → out' ≡ out ++ q ∷ []

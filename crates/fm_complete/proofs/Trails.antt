@@ -12,12 +12,13 @@ use Rattle.fm_algebra.specs.Polynomials.{AreListedTerms}
 use Rattle.fm_poly.specs.declared.ring.Ring.{Ring}
 use Rattle.fm_poly.specs.declared.term.Term.{Term}
 use Rattle.fm_poly.specs.Polys.{pairs, IsCanonical}
-use Rattle.fm_vec.specs.declared.vterm.VTerm.{VTerm}
-use Rattle.fm_vec.specs.Places.{place_cmp, AllBelow}
+use Rattle.fm_term.specs.declared.vterm.VTerm.{VTerm}
+use Rattle.fm_term.specs.Places.{term_cmp, AllBelow}
 use Rattle.fm_vec.specs.Vectors.{IsVector}
-use Rattle.fm_vec.specs.Multiples.{times_term}
-use Rattle.fm_vec.proofs.Places.{less_place}
-use Rattle.fm_vec.proofs.Adding.{below_trans, below_same}
+use Rattle.fm_term.specs.Multiples.{multiple_term}
+use Rattle.fm_term.proofs.Places.{less_place}
+use Rattle.fm_vec.proofs.Adding.{below_same}
+use Rattle.fm_term.proofs.Falling.{below_trans}
 use Rattle.fm_complete.specs.declared.step.Step.{Step}
 use Rattle.fm_complete.specs.Divisors.{term_divides, step_for}
 use Rattle.fm_complete.specs.Reductions.{cancelled}
@@ -72,7 +73,7 @@ module _ (r : Ring) where
       where
         go : (g : List VTerm) → IsStepAbove r x g (t ∷ ts) → IsStepAbove r x g w
         go [] k = tt
-        go (b ∷ bs) k = below_trans r.order (times_term r x.coeff x.mono b) t w k.0 h
+        go (b ∷ bs) k = below_trans r.order (multiple_term r.prime x.coeff x.mono b) t w k.0 h
 
     above_push : (ss : List Step) (s : Step) (w : List VTerm) → length s.mono ≡ r.vars → IsStepAbove r s (member_at members s.number) w
         → AreStepsAbove r members ss w → AreStepsAbove r members (ss ++ s ∷ []) w
@@ -82,8 +83,8 @@ module _ (r : Ring) where
     -- ---- the step's monomial is below those of earlier steps with its member
     module _ (s : Step) (b t : VTerm) (bs ts : List VTerm) (place : member_at members s.number ≡ b ∷ bs) (component : b.component ≡ t.component)
         (product : tuple_sum s.mono b.mono ≡ t.mono) (s_fits : length s.mono ≡ r.vars) (b_fits : length b.mono ≡ r.vars) where
-      mono_above : (x : Step) → length x.mono ≡ r.vars → place_cmp r.order t (times_term r x.coeff x.mono b) ≡ Less → monomial_cmp r.order s.mono x.mono ≡ Less
-      mono_above x l e = elim (less_place r.order t (times_term r x.coeff x.mono b) e) [
+      mono_above : (x : Step) → length x.mono ≡ r.vars → term_cmp r.order t (multiple_term r.prime x.coeff x.mono b) ≡ Less → monomial_cmp r.order s.mono x.mono ≡ Less
+      mono_above x l e = elim (less_place r.order t (multiple_term r.prime x.coeff x.mono b) e) [
         | inl lower ↦ absurd (omega arith)
         | inr same ↦ sym (monomial_cmp_sum r.order s.mono x.mono b.mono (s_fits ∙ sym b_fits) (l ∙ sym b_fits))
             ∙ ap (λ z. monomial_cmp r.order z (tuple_sum x.mono b.mono)) product ∙ same.1
@@ -132,7 +133,7 @@ module _ (r : Ring) where
               ss (step_some r number b t v.proper.0 w.proper.0 d) (step_below r number b t v.proper.0 w.proper.0 d) trail.above trail.quotients;
           above = above_push ss s left l
               (subst (λ g. IsStepAbove r s g left) (sym place)
-              (below_same r.order (times_term r s.coeff s.mono b) t left (tie_turned r number b t v.proper.0 w.proper.0 d s.coeff) below))
+              (below_same r.order (multiple_term r.prime s.coeff s.mono b) t left (tie_turned r number b t v.proper.0 w.proper.0 d s.coeff) below))
               (above_next ss t ts left below trail.above);
         }
 

@@ -4,7 +4,7 @@ use Rattle.fm_tuple.specs.Tuple.{TupleDivides}
 use Rattle.fm_algebra.specs.Polynomials.{Polynomial, polynomial_zero, polynomial_sum, polynomial_product}
 use Rattle.fm_poly.specs.declared.ring.Ring.{Ring}
 use Rattle.fm_poly.specs.Polys.{meaning}
-use Rattle.fm_vec.specs.declared.vterm.VTerm.{VTerm}
+use Rattle.fm_term.specs.declared.vterm.VTerm.{VTerm}
 use Rattle.fm_vec.specs.Vectors.{IsVector}
 use Rattle.fm_vec.specs.Components.{component_meaning}
 use Rattle.fm_complete.specs.declared.step.Step.{Step}

@@ -3,11 +3,11 @@ use Rattle.std.specs.Prelude.{ℕ, zero, suc, ◌==◌, ◌≡◌, ◌≢◌, if
 use Rattle.fm_poly.specs.declared.ring.Ring.{Ring}
 use Rattle.fm_poly.specs.declared.term.Term.{Term}
 use Rattle.fm_poly.specs.Polys.{PolyValue}
-use Rattle.fm_vec.specs.declared.vterm.VTerm.{VTerm}
+use Rattle.fm_term.specs.declared.vterm.VTerm.{VTerm}
 use Rattle.fm_vec.specs.Vectors.{VectorValue}
 use Rattle.fm_complete.specs.declared.step.Step.{Step}
 use Rattle.fm_complete.specs.declared.division.Division.{Division}
-use Rattle.fm_complete.specs.Runs.{Ended, ended_with}
+use Rattle.fm_run.specs.Runs.{Ended, ended_with}
 use Rattle.fm_complete.specs.Reductions.{Reduced, divided}
 
 -- what contracts see of a division

@@ -3,7 +3,7 @@ use Rattle.std.specs.Prelude.{ℕ, suc, ◌*◌, ◌%◌, ◌==◌, ◌&&◌, na
 use Rattle.fm_tuple.specs.Tuple.{tuple_difference}
 use Rattle.fm_gfp.specs.Primes.{prime_value}
 use Rattle.fm_poly.specs.declared.ring.Ring.{Ring}
-use Rattle.fm_vec.specs.declared.vterm.VTerm.{VTerm}
+use Rattle.fm_term.specs.declared.vterm.VTerm.{VTerm}
 use Rattle.fm_vec.specs.Multiples.{inverse_of}
 use Rattle.fm_complete.specs.declared.step.Step.{Step}
 

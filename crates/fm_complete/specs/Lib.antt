@@ -1,7 +1,12 @@
-pub mod Runs
 pub mod Divisors
 pub mod Reductions
 pub mod Divisions
 pub mod Trails
+pub mod Spread
 pub mod Reduced
 pub mod Combinations
+pub mod Remainders
+pub mod Completions
+pub mod Pairs
+pub mod Standing
+pub mod Bases

@@ -1,11 +1,11 @@
 -- The standard division as a run: heads are cancelled while a member's head divides them.
 use Rattle.std.specs.Prelude.{ℕ, zero, suc, if◌then◌else◌, List, [], ◌∷◌, Option, Some, None, Ok, Err}
 use Rattle.fm_poly.specs.declared.ring.Ring.{Ring}
-use Rattle.fm_vec.specs.declared.vterm.VTerm.{VTerm}
+use Rattle.fm_term.specs.declared.vterm.VTerm.{VTerm}
 use Rattle.fm_vec.specs.Multiples.{negated, plus_multiple, multiple_fits}
 use Rattle.fm_complete.specs.declared.step.Step.{Step}
-use Rattle.fm_complete.specs.declared.stop.Stop.TheVariants.{Budget, Exponent}
-use Rattle.fm_complete.specs.Runs.{Ended, ended_with}
+use Rattle.fm_run.specs.Runs.{Budget, Exponent}
+use Rattle.fm_run.specs.Runs.{Ended, ended_with}
 use Rattle.fm_complete.specs.Divisors.{next_step}
 
 -- the head reductions in their order, and the rest

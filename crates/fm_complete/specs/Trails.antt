@@ -2,11 +2,11 @@
 use Rattle.std.specs.Prelude.{ℕ, zero, suc, ◌≡◌, List, [], ◌∷◌, ◌++◌, length}
 use Rattle.fm_poly.specs.declared.ring.Ring.{Ring}
 use Rattle.fm_poly.specs.Polys.{IsCanonical}
-use Rattle.fm_vec.specs.declared.vterm.VTerm.{VTerm}
-use Rattle.fm_vec.specs.Places.{AllBelow}
-use Rattle.fm_vec.specs.Multiples.{times_term}
+use Rattle.fm_term.specs.declared.vterm.VTerm.{VTerm}
+use Rattle.fm_term.specs.Places.{AllBelow}
+use Rattle.fm_term.specs.Multiples.{multiple_term}
 use Rattle.fm_complete.specs.declared.step.Step.{Step}
-use Rattle.fm_complete.specs.Runs.{Ended, ended_with}
+use Rattle.fm_run.specs.Runs.{Ended, ended_with}
 use Rattle.fm_complete.specs.Reductions.{Reduced}
 use Rattle.fm_complete.specs.Divisions.{quotient_terms}
 
@@ -24,7 +24,7 @@ member_at (g ∷ gs) (suc (suc number)) = member_at gs (suc number)
 -- the step's term times the head of its member g is above the rest
 abbrev pub IsStepAbove : Ring → Step → List VTerm → List VTerm → Type 0
 IsStepAbove r s [] rest = Unit {0}
-IsStepAbove r s (b ∷ bs) rest = AllBelow r.order (times_term r s.coeff s.mono b) rest
+IsStepAbove r s (b ∷ bs) rest = AllBelow r.order (multiple_term r.prime s.coeff s.mono b) rest
 
 abbrev pub AreStepsAbove : Ring → List (List VTerm) → List Step → List VTerm → Type 0
 AreStepsAbove r members [] rest = Unit {0}

@@ -1,13 +1,14 @@
 // The standard division.
-ghost use Rattle.std.specs.Prelude.{IfOk, OnOk, [], length, map, ℕ, ◌++◌, ◌∷◌, ◌<◌, ◌^◌, ◌≡◌};
+ghost use Rattle.std.specs.Prelude.{IfOk, IsErrOf, OnOk, [], length, map, ℕ, ◌++◌, ◌∷◌, ◌<◌, ◌^◌, ◌≡◌};
 ghost use Rattle.fm_poly.specs.Polys.{IsCanonical};
 ghost use Rattle.fm_complete.specs.declared.step.Step.{Step as StepValue};
 ghost use Rattle.fm_complete.specs.Divisions.{AreMembers, division_run, division_value, quotient_terms, quotients_from};
-ghost use Rattle.fm_complete.specs.Runs.{Follows};
+ghost use Rattle.fm_run.specs.Runs.{Follows};
 
 use crate::starting::reduce;
-use crate::{Division, Step, Stop, Work};
+use crate::{Division, Step};
 use fm_poly::{Poly, Ring, Term};
+use fm_run::{Stop, Work};
 use fm_vec::Vector;
 use std::alloc::{AllocError, Global};
 
@@ -21,7 +22,8 @@ pub fn divide(
 ) -> Result<Division, Stop>
     requires members { AreMembers v.now.ring v.now.rows basis.now }
     requires few { length basis.now < 2 ^ 32 }
-    ensures { Follows division_value result work.new (division_run basis.now v.now work.old) }
+    ensures follows { Follows division_value result work.old work.new (division_run basis.now v.now work.old) }
+    ensures paid { IsErrOf result Stop.Memory → work.new < work.old }
 {
     if !work.spend() {
         return Err(Stop::Budget);
@@ -36,7 +38,7 @@ pub fn divide(
     })
 }
 
-fn numbers(alloc: Global, steps: &[Step]) -> Result<Vec<u32>, AllocError>
+pub(crate) fn numbers(alloc: Global, steps: &[Step]) -> Result<Vec<u32>, AllocError>
     ensures { IfOk result (λ out. out.items ≡ map (λ (s : StepValue). s.number) steps.now) }
 {
     steps.iter().map(|s| s.number).collect(alloc)

@@ -1,20 +1,34 @@
-// Division and completion of vectors by the standard run.
+// Division and completion of vectors by the standard run (Buchberger's algorithm for submodules, with the chain criterion).
+// A head reduction passes once over the vector and the member; a vector of more than a hundred terms is kept in buckets, where it passes
+// over a share of both. Finding the member is linear in the members, a new pair in the pending pairs, and a skip in both.
 #![tactic(auto)]
 
+pub(crate) mod completing;
+pub(crate) mod completion;
+pub(crate) mod critical_pair;
 pub mod dividing;
 pub mod division;
+pub(crate) mod entry;
+#[cfg(test)]
+mod graph_tests;
 pub mod laws;
+pub(crate) mod long;
+pub(crate) mod pairs;
+pub(crate) mod pending;
 pub(crate) mod reducing;
+pub mod remainder;
+pub(crate) mod spreading;
 pub(crate) mod starting;
 pub mod step;
 pub(crate) mod stepping;
-pub mod stop;
 #[cfg(test)]
 mod tests;
-pub mod work;
 
+pub use completing::complete;
+pub use completion::Basis;
+pub use critical_pair::CriticalPair;
 pub use dividing::divide;
 pub use division::Division;
+pub use entry::{Entry, Start};
+pub use remainder::{Remainder, reduced_rest, rest_of};
 pub use step::Step;
-pub use stop::Stop;
-pub use work::Work;

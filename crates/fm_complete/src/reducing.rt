@@ -4,11 +4,13 @@ ghost use Rattle.fm_poly.specs.Polys.{IsCanonical};
 ghost use Rattle.fm_complete.specs.Divisions.{AreMembers, quotient_terms, terms_of};
 ghost use Rattle.fm_complete.specs.Reductions.{reduced};
 ghost use Rattle.fm_complete.specs.Reduced.{reduction_value};
-ghost use Rattle.fm_complete.specs.Runs.{Follows};
+ghost use Rattle.fm_run.specs.Runs.{Follows};
 ghost use Rattle.fm_complete.specs.Trails.{IsTrail, ahead};
 
+use crate::Step;
+use crate::long::{LONG, reduce_long};
 use crate::stepping::{cancel, find_step};
-use crate::{Step, Stop, Work};
+use fm_run::{Stop, Work};
 use fm_vec::Vector;
 use std::alloc::Global;
 
@@ -19,7 +21,7 @@ pub(crate) struct Reduction {
     pub rest: Vector,
 }
 
-/// Reduces what earlier steps left. Two buffers take turns.
+/// Reduces what earlier steps left. Two buffers take turns; a vector that is or grows long goes into buckets.
 pub(crate) fn reduce_on(
     alloc: Global,
     basis: &[Vector],
@@ -30,7 +32,7 @@ pub(crate) fn reduce_on(
     requires members { AreMembers rest.ring rest.rows basis.now }
     requires few { length basis.now < 2 ^ 32 }
     requires trail { IsTrail rest.ring (terms_of basis.now) steps.items rest.terms }
-    ensures follows { Follows reduction_value result work.new (ahead steps.items (reduced rest.ring (terms_of basis.now) work.old rest.terms)) }
+    ensures follows { Follows reduction_value result work.old work.new (ahead steps.items (reduced rest.ring (terms_of basis.now) work.old rest.terms)) }
     ensures same { IfOk result (λ x. (x.rest.ring ≡ rest.ring) × (x.rest.rows ≡ rest.rows)) }
     ensures trail { IfOk result (λ x. IsTrail rest.ring (terms_of basis.now) x.steps.items x.rest.terms) }
 {
@@ -40,6 +42,9 @@ pub(crate) fn reduce_on(
     let mut steps = steps;
     let mut spare = Vec::new(alloc);
     'steps: loop {
+        if rest.terms().len() > LONG {
+            return reduce_long(alloc, basis, &rest, steps, work);
+        }
         let Some(head) = rest.head() else {
             return Ok(Reduction { steps, rest });
         };

@@ -4,11 +4,12 @@ ghost use Rattle.fm_poly.specs.Polys.{IsCanonical};
 ghost use Rattle.fm_complete.specs.Divisions.{AreMembers, quotient_terms, terms_of};
 ghost use Rattle.fm_complete.specs.Reduced.{reduction_value};
 ghost use Rattle.fm_complete.specs.Reductions.{reduced};
-ghost use Rattle.fm_complete.specs.Runs.{Follows};
+ghost use Rattle.fm_run.specs.Runs.{Follows};
 
+use crate::long::{LONG, reduce_long};
 use crate::reducing::{Reduction, reduce_on};
 use crate::stepping::{cancel, find_step};
-use crate::{Stop, Work};
+use fm_run::{Stop, Work};
 use fm_vec::Vector;
 use std::alloc::Global;
 
@@ -21,7 +22,7 @@ pub(crate) fn reduce(
 ) -> Result<Reduction, Stop>
     requires members { AreMembers v.now.ring v.now.rows basis.now }
     requires few { length basis.now < 2 ^ 32 }
-    ensures follows { Follows reduction_value result work.new (reduced v.now.ring (terms_of basis.now) work.old v.now.terms) }
+    ensures follows { Follows reduction_value result work.old work.new (reduced v.now.ring (terms_of basis.now) work.old v.now.terms) }
     ensures same { IfOk result (λ x. (x.rest.ring ≡ v.now.ring) × (x.rest.rows ≡ v.now.rows)) }
     ensures quotients { IfOk result (λ x. (number : ℕ) → IsCanonical v.now.ring (quotient_terms number x.steps.items)) }
 {
@@ -31,6 +32,9 @@ pub(crate) fn reduce(
     let Some((step, b)) = find_step(v.ring(), v.length(), basis, &head) else {
         return unchanged(alloc, v);
     };
+    if v.terms().len() > LONG {
+        return reduce_long(alloc, basis, v, Vec::new(alloc), work);
+    }
     if !work.spend() {
         return Err(Stop::Budget);
     }

@@ -2,14 +2,17 @@
 ghost use Rattle.std.specs.Prelude.{IfOk, IfSome, IsErrOf, MatchOption, None, OnOk, Some, false, length, true, ◌<◌, ◌^◌, ◌≡◌};
 ghost use Rattle.fm_gfp.specs.Primes.{prime_value};
 ghost use Rattle.fm_vec.specs.Multiples.{multiple_fits};
-ghost use Rattle.fm_vec.specs.Vectors.{IsTerm, IsVector};
+ghost use Rattle.fm_term.specs.Falling.{IsTerm};
+ghost use Rattle.fm_vec.specs.Vectors.{IsVector};
 ghost use Rattle.fm_complete.specs.Divisions.{AreMembers, terms_of};
 ghost use Rattle.fm_complete.specs.Divisors.{first_step, step_for, term_divides};
 ghost use Rattle.fm_complete.specs.Reductions.{cancelled};
 
-use crate::{Step, Stop};
+use crate::Step;
 use fm_poly::{PolyError, Ring};
-use fm_vec::{VTerm, Vector};
+use fm_run::Stop;
+use fm_term::VTerm;
+use fm_vec::Vector;
 
 /// The step by the first member whose head divides t, and this member.
 pub(crate) fn find_step<'a>(
@@ -18,7 +21,7 @@ pub(crate) fn find_step<'a>(
     basis: &'a [Vector],
     t: &VTerm,
 ) -> Option<(Step, &'a Vector)>
-    requires term { IsTerm ring t.now }
+    requires term { IsTerm ring.prime ring.vars t.now }
     requires members { AreMembers ring rows basis.now }
     requires few { length basis.now < 2 ^ 32 }
     ensures found { MatchOption result (first_step ring 1 (terms_of basis.entry.now) t.now ≡ None) (λ p. first_step ring 1 (terms_of basis.entry.now) t.now ≡ Some (p.0, p.1.now.terms)) }
@@ -44,8 +47,8 @@ pub(crate) fn find_step<'a>(
 /// Whether b divides t.
 #[inline]
 fn divides(ring: Ring, b: &VTerm, t: &VTerm) -> bool
-    requires b_term { IsTerm ring b.now }
-    requires t_term { IsTerm ring t.now }
+    requires b_term { IsTerm ring.prime ring.vars b.now }
+    requires t_term { IsTerm ring.prime ring.vars t.now }
     ensures { result ≡ term_divides b.now t.now }
 {
     if b.component != t.component {
@@ -56,8 +59,8 @@ fn divides(ring: Ring, b: &VTerm, t: &VTerm) -> bool
 
 /// The step by which the member with the head b cancels t.
 fn step_to(ring: Ring, number: u32, b: &VTerm, t: &VTerm) -> Step
-    requires b_term { IsTerm ring b.now }
-    requires t_term { IsTerm ring t.now }
+    requires b_term { IsTerm ring.prime ring.vars b.now }
+    requires t_term { IsTerm ring.prime ring.vars t.now }
     requires divides { term_divides b.now t.now ≡ true }
     ensures value { result ≡ step_for ring number b.now t.now }
     ensures vars { length result.mono ≡ ring.vars }

@@ -1,17 +1,18 @@
 // Divisions against values found by hand and by the worked rows of the report.
-ghost use Rattle.std.specs.Prelude.{All, IfOk, ◌≡◌};
+ghost use Rattle.std.specs.Prelude.{All, IfOk, length, ◌≡◌};
 ghost use Rattle.fm_poly.specs.Polys.{IsTermOf};
 
-use crate::{Division, Stop, Work, divide};
+use crate::{Division, divide};
 use fm_gfp::Prime;
-use fm_mono::{Mono, Order};
+use fm_mono::{EXPONENT_BOUND, Mono, Order};
 use fm_poly::{Poly, Ring, Term};
+use fm_run::{Stop, Work};
 use fm_vec::Vector;
 use std::alloc::{AllocError, Global};
 use std::test::Fail;
 
 // Terms in x and y: both exponents and the coefficient.
-type Listed = ([u16; 2], u64);
+type Listed = ([u32; 2], u64);
 
 const PLANE: Ring = Ring {
     prime: Prime::Five,
@@ -27,13 +28,22 @@ fn poly(alloc: Global, list: &[Listed]) -> Result<Poly, AllocError>
     Ok(f)
 }
 
+// The monomial with these exponents, none of which passes the bound.
+#[tactic(auto, using(fm_mono::proofs::Bounds::within_more))]
+fn mono(exponents: [u32; 2]) -> Mono
+    ensures { length result ≡ 2 }
+{
+    let [x, y] = exponents;
+    Mono::of(&[x.min(EXPONENT_BOUND), y.min(EXPONENT_BOUND)])
+}
+
 fn listed(alloc: Global, list: &[Listed]) -> Result<Vec<Term>, AllocError>
     ensures { IfOk result (λ v. All (IsTermOf PLANE) v.items) }
 {
     let mut terms = Vec::new(alloc);
     for t in list {
         terms.push(Term {
-            mono: Mono::of(&t.0),
+            mono: mono(t.0),
             coeff: PLANE.prime.element(t.1),
         })?;
     }
@@ -135,11 +145,11 @@ fn a_member_of_the_span_leaves_nothing(rt: HostRuntime) -> Result<(), Fail> {
     Ok(())
 }
 
-// x y^60000 by x - y^60000: the multiple has y^120000.
+// x y^10000000 by x - y^10000000: the multiple has y^20000000.
 fn past_the_bound(alloc: Global, units: u32) -> Result<(Division, u32), Stop> {
-    let a = pair(alloc, &[([1, 0], 1), ([0, 60_000], 4)], &[])?;
+    let a = pair(alloc, &[([1, 0], 1), ([0, 10_000_000], 4)], &[])?;
     let b = pair(alloc, &[([0, 0], 1)], &[])?;
-    let v = pair(alloc, &[([1, 60_000], 1)], &[])?;
+    let v = pair(alloc, &[([1, 10_000_000], 1)], &[])?;
     by_two(alloc, a, b, &v, units)
 }
 

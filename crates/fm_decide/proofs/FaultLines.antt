@@ -10,7 +10,7 @@ use Rattle.fm_problem.specs.Faults.{fault_text}
 use Rattle.fm_problem.specs.declared.fault_kind.FaultKind.{FaultKind}
 use Rattle.fm_problem.specs.declared.fault_kind.FaultKind.TheVariants.{Syntax, UnknownName, Repeated, Range, NotPrime, Limit, NotBuilt}
 use Rattle.fm_report.specs.Holding.{VerdictsHold}
-use Rattle.fm_report.proofs.Silent.{one_line_holds}
+use Rattle.fm_report.proofs.Silent.{message_holds}
 
 -- no byte is LF
 abbrev is_one_line : Bytes → Bool
@@ -54,7 +54,7 @@ fault_one_line NotBuilt = refl
 
 pub fault_line_holds : (l : ℕ) (k : FaultKind) (front back : Bytes) → codes "line " ++ (decimal l ++ (codes ": " ++ (fault_text k ++ 10 ∷ []))) ≡ front ++ back → VerdictsHold front
 fault_line_holds l k front back e =
-    one_line_holds (codes "line " ++ (decimal l ++ (codes ": " ++ fault_text k)))
+    message_holds (codes "line " ++ (decimal l ++ (codes ": " ++ fault_text k)))
     (one_line_append (codes "line ") (decimal l ++ (codes ": " ++ fault_text k)) refl
     (one_line_append (decimal l) (codes ": " ++ fault_text k) (decimal_one_line l) (one_line_append (codes ": ") (fault_text k) refl (fault_one_line k))))
-    front back (ap (λ rest. codes "line " ++ rest) (append_assoc (decimal l) (codes ": " ++ fault_text k) (10 ∷ [])) ∙ e)
+    refl front back (ap (λ rest. codes "line " ++ rest) (append_assoc (decimal l) (codes ": " ++ fault_text k) (10 ∷ [])) ∙ e)

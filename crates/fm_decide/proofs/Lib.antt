@@ -1,5 +1,5 @@
 pub mod Loops
 pub mod Whole
-pub mod ReadExponents
+pub mod SameTexts
 pub mod Reported
 pub mod FaultLines

@@ -1,16 +1,15 @@
 -- The lines that are written, one ideal and one query after another.
-use Rattle.std.proofs.Common.{◌≡◌, ◌≢◌, ◌<◌, ◌≤◌, ◌+◌, ℕ, suc, Bool, true, false, ◌&&◌, List, [], ◌∷◌, ◌++◌, All, map, length, refl, sym, ap, ap₂, ◌∙◌, append_assoc, append-nil, arith, codes, decimal, subst}
+use Rattle.std.proofs.Common.{◌≡◌, ◌≢◌, ◌+◌, ℕ, suc, Bool, true, false, ◌&&◌, List, [], ◌∷◌, ◌++◌, All, map, length, refl, sym, ap, ap₂, ◌∙◌, append_assoc, arith, codes, decimal, subst}
 use Rattle.std.proofs.lemmas.List.Elements.{All-head, All-tail}
-use Rattle.std.specs.List.{flat_map}
 use Rattle.std.proofs.lemmas.Grind.{flat_map-append}
 use Rattle.fm_poly.specs.declared.ring.Ring.{Ring}
 use Rattle.fm_poly.specs.Polys.{PolyValue}
-use Rattle.fm_poly.specs.Texts.{Bytes, Terms, poly_text}
+use Rattle.fm_poly.specs.Texts.{Bytes, poly_text}
 use Rattle.fm_problem.specs.declared.problem.Problem.{Problem}
 use Rattle.fm_problem.specs.declared.ideal.Ideal.{Ideal}
 use Rattle.fm_problem.specs.declared.query.Query.{Query}
 use Rattle.fm_problem.specs.Sound.{IsPolynomialOf}
-use Rattle.fm_report.specs.Writing.{QueryReport, generator_words, ideal_words, line_text, query_lines, end_lines, question_words}
+use Rattle.fm_writer.specs.Writing.{QueryReport, generator_words, ideal_words, line_text, query_lines, end_lines, question_words}
 use Rattle.fm_writer.specs.Blocks.{block_lines}
 use Rattle.fm_writer.specs.Lines.{lines_text}
 use Rattle.fm_writer.specs.Printed.{AreOverVariables, printed_vector}
@@ -21,15 +20,14 @@ use Rattle.fm_gfp.specs.Primes.{prime_value}
 use Rattle.fm_poly.specs.declared.term.Term.{Term}
 use Rattle.fm_problem.specs.Sound.{IsProblem, IsIdealOf}
 use Rattle.fm_vec.specs.Components.{column_terms, placed}
-use Rattle.fm_vec.specs.Multiples.{twisted, twist_fits}
+use Rattle.fm_term.specs.Multiples.{twisted}
+use Rattle.fm_vec.specs.Multiples.{twist_fits}
 use Rattle.fm_vec.specs.Vectors.{VectorValue}
-use Rattle.fm_complete.specs.declared.stop.Stop.{Stop}
-use Rattle.fm_complete.specs.declared.stop.Stop.TheVariants.{Exponent}
-use Rattle.fm_complete.specs.Runs.{Ended, result_with}
+use Rattle.fm_run.specs.Runs.{Halt, Exponent, Ended, result_with}
 use Rattle.fm_complete.specs.Reductions.{Reduced, divided}
 use Rattle.fm_complete.specs.Divisions.{DivisionValue, division_of, division_run}
 use Rattle.fm_principal.specs.Plans.{PlanEnd, column_vector, plan_end, after_lift, after_stage, stage_run, twisted_vector}
-use Rattle.fm_decide.specs.Ends.{IsEndOver}
+use Rattle.fm_principal.specs.OverVariables.{IsEndOver}
 
 -- ---- ideals
 
@@ -123,12 +121,12 @@ nonzero_column (f ∷ fs) e all h = of f.terms (All-head (λ (f : PolyValue). f.
 
 -- ---- ends
 
-over_result : (f : VectorValue) (e : ℕ) (z : VectorValue) (theta : List PolyValue) (r : Result DivisionValue Stop) → AreOverVariables f.ring.vars theta
+over_result : (f : VectorValue) (e : ℕ) (z : VectorValue) (theta : List PolyValue) (r : Result DivisionValue Halt) → AreOverVariables f.ring.vars theta
     → IsEndOver f.ring.vars (after_stage theta r)
 over_result f e z theta (Ok d) over = over
 over_result f e z theta (Err s) over = tt
 
-over_quotients : (r : Ring) (rows : ℕ) (f : VectorValue) (e : ℕ) (z : VectorValue) (x : Result Reduced Stop) (units : ℕ) → f.ring ≡ r
+over_quotients : (r : Ring) (rows : ℕ) (f : VectorValue) (e : ℕ) (z : VectorValue) (x : Result Reduced Halt) (units : ℕ) → f.ring ≡ r
     → IsEndOver f.ring.vars (after_lift f e z (result_with (division_of r rows 1) x) units)
 over_quotients r rows f e z (Ok x) units same = over_result f e z _ (stage_run f e z units).end (ap (λ (x : Ring). x.vars) same, tt)
 over_quotients r rows f e z (Err s) units same = tt

@@ -1,287 +1,229 @@
--- The report of a sound problem can be written, and its answered queries are computed rightly.
-use Rattle.std.proofs.Common.{◌≡◌, ◌≢◌, ◌<◌, ◌≤◌, ◌^◌, ℕ, zero, suc, Bool, true, false, if◌then◌else◌, List, [], ◌∷◌, ◌++◌, All, length, map, replicate, nat_eq, nat_le, slice_get, Option, Some, None, Ok, refl, sym, ◌∙◌, ap, subst, arith}
+-- The report of a problem that is read can be written, and what it states holds.
+use Rattle.std.proofs.Common.{◌≡◌, ◌≢◌, ◌<◌, ◌+◌, ◌^◌, ℕ, zero, suc, Bool, true, false, ◌&&◌, List, [], ◌∷◌, ◌++◌, All, length, nat_eq, slice_get, Option, Some, None, Ok, refl, sym, ◌∙◌, ap, subst, arith}
+use Rattle.std.specs.Prelude.{Result}
 use Rattle.std.specs.List.{list_all}
-use Rattle.std.proofs.lemmas.Bool.{and_parts, and_from, leb-true, eqb-true}
-use Rattle.std.proofs.lemmas.Bool.Decides.{nat_tests}
+use Rattle.std.proofs.lemmas.Bool.{and_parts, and_from, eqb-true, eq-eqb}
 use Rattle.std.proofs.lemmas.List.{length-replicate}
 use Rattle.std.proofs.lemmas.List.Elements.{All-head, All-tail}
-use Rattle.fm_algebra.specs.Polynomials.{AreListedTerms}
-use Rattle.fm_algebra.specs.Twist.{AllBelow}
-use Rattle.fm_gfp.specs.Primes.{prime_value}
-use Rattle.fm_gfp.specs.declared.prime.Prime.{Prime}
-use Rattle.fm_mono.specs.Bounded.{is_bounded}
-use Rattle.fm_mono.specs.declared.exponent.TheConstants.{EXPONENT_BOUND}
-use Rattle.fm_poly.specs.declared.ring.Ring.{Ring}
-use Rattle.fm_poly.specs.declared.term.Term.{Term}
-use Rattle.fm_poly.specs.Polys.{PolyValue, IsCanonical, pairs}
-use Rattle.fm_poly.specs.Texts.{Bytes, Terms, same_bytes, is_name, are_names, AreNames, IsPrintableTerm, ArePrintable, AllPrintable, AreWithinBound}
-use Rattle.fm_words.specs.Words as words
-use Rattle.fm_complete.specs.declared.stop.Stop.{Stop}
-use Rattle.fm_complete.specs.declared.stop.Stop.TheVariants.{Budget, Exponent, Memory}
+use Rattle.fm_gfp.proofs.Residues.{prime_above_one}
+use Rattle.fm_mono.proofs.Bounds.{zeros_within}
+use Rattle.fm_limit.specs.Verdicts.{RestsOn, Holds, zero_class}
+use Rattle.fm_poly.specs.Polys.{PolyValue, IsCanonical, pairs, meaning}
+use Rattle.fm_poly.specs.Texts.{AreNames}
+use Rattle.fm_words.specs.Parts.{Bytes}
+use Rattle.fm_run.specs.declared.stop.Stop.TheVariants.{Budget, Exponent, Memory}
 use Rattle.fm_principal.specs.declared.task.Task.{Task}
 use Rattle.fm_principal.specs.declared.task.Task.TheVariants.{Lift, Stage}
-use Rattle.fm_principal.specs.Plans as plans
-use Rattle.fm_principal.specs.Plans.{PlanEnd, column_vector, plan_end}
+use Rattle.fm_principal.specs.Plans.{PlanEnd, answered, stopped, column_vector, plan_end}
+use Rattle.fm_principal.specs.PrincipalQueries.{PrincipalQuery, stage_found, principal_ideal, IsRight}
 use Rattle.fm_principal.proofs.Rightness.{theta_is_one, theta_is_bounded, plan_is_right}
-use Rattle.fm_problem.specs.declared.limits.TheConstants.{STAGE}
+use Rattle.fm_principal.proofs.Verdicts.{right_holds}
 use Rattle.fm_problem.specs.declared.problem.Problem.{Problem}
 use Rattle.fm_problem.specs.declared.ideal.Ideal.{Ideal}
 use Rattle.fm_problem.specs.declared.query.Query.{Query}
 use Rattle.fm_problem.specs.declared.query.Query as queries
 use Rattle.fm_problem.specs.Problems.{is_principal, is_built, problem_of}
-use Rattle.fm_problem.specs.Sound.{IsPolynomialOf, IsShortName, IsAbsent, AreApart, IsIdealOf, IsQueryOf, IsProblem}
+use Rattle.fm_problem.specs.Sound.{IsPolynomialOf, IsIdealOf, IsQueryOf, IsProblem, AreSmall, AreSmallIdeals, IsSmallQuery, AreSmallQueries, HasSmallExponents}
 use Rattle.fm_problem.proofs.SoundProblems.{problem_sound}
-use Rattle.fm_report.specs.Holding.{VerdictsHold}
-use Rattle.fm_report.specs.PrincipalQueries.{principal_answer, IsRightEnd, AreRight}
-use Rattle.fm_report.specs.Reading.{ideal_named}
-use Rattle.fm_report.specs.Writing.{QueryReport, report_text, is_word, AreWritableIdeals, IsWritableQuestion, IsWritableAnswer, IsWritableEnd, AreWritableQueries, IsWritable}
-use Rattle.fm_report.proofs.Holding.{beginning_holds}
-use Rattle.fm_report.proofs.Steps.{prime_small}
-use Rattle.fm_report.proofs.Written.{same_means_equal}
-use Rattle.fm_writer.specs.Printed.{printed_vector}
-use Rattle.fm_decide.specs.Reports.{printed_generators, ideal_entry, question_on, stop_word, task_words, ended_report, class_report_of, on_ideal, query_reports, reports_of, report_of}
-use Rattle.fm_decide.proofs.ReadExponents.{AllWithinBound, IdealsWithinBound, QueryWithinBound, QueriesWithinBound, IsWithinBound, problem_within}
+use Rattle.fm_problem.proofs.SmallExponents.{problem_within}
+use Rattle.fm_cert.specs.Fields.{Values}
+use Rattle.fm_cert.specs.Kinds.{EndKind, end_row}
+use Rattle.fm_cert.specs.Kinds as kinds
+use Rattle.fm_cert.specs.Naming.{Grid, differentials, lifts}
+use Rattle.fm_cert.specs.Writable.{IsWritablePolynomial, IsWritableValue, is_word}
+use Rattle.fm_report.specs.Parts.{given, part_value, meant}
+use Rattle.fm_report.specs.Sheets.{Block}
+use Rattle.fm_report.specs.Verdicts.{verdict, resolved, verdict_of, stated}
+use Rattle.fm_report.specs.Holding.{IsHeld, AllHold, VerdictsHold}
+use Rattle.fm_report.specs.Reports.{QueryReport, IsWritableBlock, AreWritableBlocks, block_says, report_says}
+use Rattle.fm_report.proofs.HeadsRead.{named, writable_polynomial}
+use Rattle.fm_report.proofs.Holding.{all_hold_append}
+use Rattle.fm_report.proofs.NamingsSaid.{GridsGood}
+use Rattle.fm_report.proofs.BlocksSaid.{unanswered_writable, unanswered_says, answer_writable, answer_says}
+use Rattle.fm_report.proofs.ReportsRead.{report_holds}
+use Rattle.fm_decide.specs.Answers.{task_name, resolution_grids, lift_grids, one_poly, ended_class, class_answer, answers, report_bytes}
 
--- ---- names
-name_test : (m : Bytes) → words.is_name m ≡ true → is_name m ≡ true
-name_test [] h = h
-name_test (b ∷ bs) h = h
+module _ (q : Problem) (sound : IsProblem q) (small : HasSmallExponents q) where
+  names_are : AreNames q.vars
+  names_are = named q sound small
 
-absent_test : (m : Bytes) (ms : List Bytes) → IsAbsent m ms → list_all (λ o. if same_bytes o m then false else true) ms ≡ true
-absent_test m [] w = refl
-absent_test m (o ∷ ms) w = and_from _ _ (by_test (same_bytes o m) refl) (absent_test m ms w.1)
-  where
-    by_test : (t : Bool) → same_bytes o m ≡ t → (if t then false else true) ≡ true
-    by_test true e = absurd (w.0 (same_means_equal o m e))
-    by_test false e = refl
+  -- ---- the block of the class (e, z) of the ideal (f)
+  module _ (k : ℕ) (few : suc k < 2 ^ 64) (m e : ℕ) (z : PolyValue) (of : IsQueryOf q (queries.TheVariants.Class 1 m e (z ∷ []))) (low : IsSmallQuery (queries.TheVariants.Class 1 m e (z ∷ [])))
+      (a : Ideal) (there : slice_get q.ideals m ≡ Some a) (f : PolyValue) (single : a.generators ≡ f ∷ []) (f_sound : IsPolynomialOf q.ring f) (f_small : Rattle.fm_problem.specs.Sound.AreSmallTerms f.terms) (some : f.terms ≢ []) where
+    abbrev query : Query
+    query = queries.TheVariants.Class 1 m e (z ∷ [])
 
-names_test : (ms : List Bytes) → All IsShortName ms → AreApart ms → are_names ms ≡ true
-names_test [] all apart = refl
-names_test (m ∷ ms) all apart =
-    and_from _ _ (name_test m (All-head IsShortName m ms all).name) (and_from _ _ (absent_test m ms apart.0) (names_test ms (All-tail IsShortName m ms all) apart.1))
+    z_sound : IsPolynomialOf q.ring z
+    z_sound = All-head (IsPolynomialOf q.ring) z [] of.3
 
-names_written : (ms : List Bytes) → All IsShortName ms → AreApart ms → AreNames ms
-unfolding AreNames
-names_written ms all apart = names_test ms all apart
+    -- ---- without an answer
+    record GoodBlock (b : QueryReport) : Type 0 where
+      writable : IsWritableBlock q k b
+      holds : AllHold (block_says q k b)
 
--- ---- polynomials
-entry_below : (i : ℕ) → nat_le i EXPONENT_BOUND ≡ true → i < 2 ^ 64
-entry_below i h = let l = leb-true i EXPONENT_BOUND h in omega (arith, l)
+    stopped_good : (kind : EndKind) (values : Values (end_row kind)) → Rattle.fm_report.specs.Sheets.is_answer kind ≡ false → Rattle.fm_cert.specs.Writable.AnswersQuery (Some query) (kinds.Ended kind)
+        → Rattle.fm_cert.specs.Writable.AreWritableValues q.ring (end_row kind) values → GoodBlock (record { question = query; kind = kind; values = values; lines = [] })
+    stopped_good kind values none ans w = record {
+      writable = unanswered_writable q sound small k few query of low kind values none ans w;
+      holds = subst AllHold (sym (unanswered_says q sound small k few query of low kind values none ans w)) tt;
+    }
 
-entries_below : (a : List ℕ) → is_bounded a ≡ true → AllBelow (2 ^ 64) a
-entries_below [] h = tt
-entries_below (i ∷ a) h = (entry_below i (and_parts _ _ h).0, entries_below a (and_parts _ _ h).1)
+    task_some : (task : Task) → 0 < length (task_name task)
+    task_some Lift = omega arith
+    task_some Stage = omega arith
 
-coefficient_below : (p : Prime) (c : ℕ) → c < prime_value p → c < 2 ^ 64
-coefficient_below p c h = let l = prime_small p in omega (arith, h, l)
+    task_words : (task : Task) → list_all is_word (task_name task) ≡ true
+    task_words Lift = refl
+    task_words Stage = refl
 
-terms_printable : (r : Ring) (ts : List Term) → AreListedTerms r.prime r.vars (pairs ts) → AreWithinBound (pairs ts) → ArePrintable r.vars (pairs ts)
-unfolding IsPrintableTerm
-terms_printable r [] c w = tt
-terms_printable r (t ∷ ts) c w = ((c.0, entries_below t.mono w.0, c.1, coefficient_below r.prime t.coeff c.2), terms_printable r ts c.3 w.1)
+    -- ---- with an answer
+    module _ (t : PolyValue) (b : Bool) (units : ℕ) (t_ring : t.ring ≡ q.ring) (t_canonical : IsCanonical q.ring t.terms)
+        (ends : plan_end (column_vector q.ring (f ∷ [])) e (column_vector q.ring (z ∷ [])) units ≡ answered (t ∷ []) b) where
+      abbrev ds : List Grid
+      ds = resolution_grids (f ∷ [])
 
-all_printable : (r : Ring) (fs : List PolyValue) → All (IsPolynomialOf r) fs → AllWithinBound fs → AllPrintable r.vars (printed_vector fs)
-all_printable r [] all w = tt
-all_printable r (f ∷ fs) all w =
-    (terms_printable r f.terms (All-head (IsPolynomialOf r) f fs all).canonical.listed w.0, all_printable r fs (All-tail (IsPolynomialOf r) f fs all) w.1)
+      abbrev ts : List Grid
+      ts = lift_grids q.ring (t ∷ [])
 
-zeros_below : (n : ℕ) → AllBelow (2 ^ 64) (replicate n 0)
-zeros_below zero = tt
-zeros_below (suc n) = (omega arith, zeros_below n)
+      f_writable : IsWritablePolynomial q.ring f
+      f_writable = writable_polynomial q.ring q.vars names_are sound.bounded.named f f_sound f_small
 
-one_printable : (n : ℕ) → ArePrintable n ((replicate n 0, 1) ∷ [])
-unfolding IsPrintableTerm
-one_printable n = ((length-replicate n 0, zeros_below n, omega arith, omega arith), tt)
+      t_writable : IsWritablePolynomial q.ring t
+      t_writable = record { of_ring = t_ring; canonical = t_canonical; within = theta_is_bounded q.ring f z t e units b ends }
 
--- ---- ideals
-generators_some : (fs : List PolyValue) → 0 < length (printed_generators fs)
-generators_some [] = omega arith
-generators_some (f ∷ fs) = omega arith
+      one_writable : IsWritablePolynomial q.ring (one_poly q.ring)
+      one_writable = record {
+        of_ring = refl;
+        canonical = record { listed = (length-replicate q.ring.vars 0, omega arith, prime_above_one q.ring.prime, tt); falls = (tt, tt) };
+        within = (zeros_within q.ring.vars, tt);
+      }
 
-generators_printable : (r : Ring) (fs : List PolyValue) → All (IsPolynomialOf r) fs → AllWithinBound fs → AllPrintable r.vars (printed_generators fs)
-generators_printable r [] all w = (tt, tt)
-generators_printable r (f ∷ fs) all w = all_printable r (f ∷ fs) all w
+      grids : GridsGood q (named q sound small) sound.bounded.named (differentials 1 ds ++ lifts 0 ts)
+      grids = (
+        record { rows = omega arith; few = omega arith; writable = ((f_writable, tt), tt) },
+        (
+          record { rows = omega arith; few = omega arith; writable = tt },
+          (record { rows = omega arith; few = omega arith; writable = ((one_writable, tt), tt) }, (record { rows = omega arith; few = omega arith; writable = ((t_writable, tt), tt) }, tt)),
+        ),
+      )
 
-ideals_written : (r : Ring) (is : List Ideal) → All (IsIdealOf r) is → IdealsWithinBound is → AreWritableIdeals r.vars (map ideal_entry is)
-ideals_written r [] all w = tt
-ideals_written r (i ∷ is) all w =
-    let sound = All-head (IsIdealOf r) i is all in
-    (name_test i.name sound.named.name, generators_some i.generators, generators_printable r i.generators sound.of_ring w.0, ideals_written r is (All-tail (IsIdealOf r) i is all) w.1)
+      stage_small : (c : Bool) → IsWritableValue q.ring (Rattle.fm_cert.specs.Fields.yes_with (Rattle.std.specs.Prelude.codes "stage")) (stage_found c e)
+      stage_small true = let l = of.2 in omega (arith, l)
+      stage_small false = tt
 
-no_ideal : {A : Type 0} (x : A) → ◌≡◌ {A = Option A} None (Some x) → ⊥
-no_ideal x e = cc
+      about : (nat_eq m m && nat_eq 1 1) ≡ true
+      about = and_from _ _ (eq-eqb m m refl) refl
 
-same_some : {A : Type 0} {x y : A} → ◌≡◌ {A = Option A} (Some x) (Some y) → x ≡ y
-same_some e = cc
+      right : IsRight q.ring.prime q.ring.vars (record { f = pairs f.terms; stage = e; z = pairs z.terms; theta = pairs t.terms; divides = b })
+      right = plan_is_right q.ring f z t e units b f_sound.canonical z_sound.canonical some ends
 
--- an ideal of the problem
-ideal_at : (r : Ring) (is : List Ideal) (k : ℕ) (i : Ideal) → slice_get is k ≡ Some i → All (IsIdealOf r) is → IdealsWithinBound is → IsIdealOf r i × AllWithinBound i.generators
-ideal_at r [] k i e all w = absurd (no_ideal i e)
-ideal_at r (j ∷ is) zero i e all w = subst (λ (x : Ideal). IsIdealOf r x × AllWithinBound x.generators) (same_some e) (All-head (IsIdealOf r) j is all, w.0)
-ideal_at r (j ∷ is) (suc k) i e all w = ideal_at r is k i e (All-tail (IsIdealOf r) j is all) w.1
+      abbrev block : Block
+      block = record { ideal = m; degree = 1; differentials = given 1 ((f ∷ []) ∷ []) ∷ given 1 [] ∷ []; lift = given 1 ((one_poly q.ring ∷ []) ∷ []) ∷ given 1 ((t ∷ []) ∷ []) ∷ []; cocycles = []; kernels = []; morphism = [] }
 
-eq_itself : (b : ℕ) → nat_eq b b ≡ true
-eq_itself b = grind (arith, nat_tests)
+      abbrev computed : PrincipalQuery
+      computed = record { f = pairs f.terms; stage = e; z = pairs z.terms; theta = pairs t.terms; divides = b }
 
-same_itself : (w : Bytes) → same_bytes w w ≡ true
-same_itself [] = refl
-same_itself (b ∷ bs) = and_from _ _ (eq_itself b) (same_itself bs)
+      resolved_is : resolved q.ring (f ∷ []) block ≡ principal_ideal q.ring.prime q.ring.vars computed
+      unfolding principal_ideal part_value meaning
+      resolved_is = refl
 
-absent_at : (n : Bytes) (is : List Ideal) (k : ℕ) (i : Ideal) → IsAbsent n (map (λ (j : Ideal). j.name) is) → slice_get is k ≡ Some i → n ≡ i.name → ⊥
-absent_at n [] k i w e h = no_ideal i e
-absent_at n (j ∷ is) zero i w e h = w.0 (ap (λ (x : Ideal). x.name) (same_some e) ∙ sym h)
-absent_at n (j ∷ is) (suc k) i w e h = absent_at n is k i w.1 e h
+      verdict_holds : IsHeld (verdict q.ring.prime q.ring.vars (zero_class 1 (resolved q.ring (f ∷ []) block) e (meant q.ring (z ∷ [])) (stage_found b e)))
+      unfolding IsHeld meaning
+      verdict_holds =
+          subst (λ I. RestsOn q.ring.prime q.ring.vars (zero_class 1 I e (meant q.ring (z ∷ [])) (stage_found b e)) × Holds q.ring.prime q.ring.vars (zero_class 1 I e (meant q.ring (z ∷ [])) (stage_found b e)))
+          (sym resolved_is) (right_holds q.ring.prime q.ring.vars computed right)
 
--- the ideal of a name is the one that has it, since names are apart
-ideal_found : (is : List Ideal) (k : ℕ) (i : Ideal) → AreApart (map (λ (j : Ideal). j.name) is) → slice_get is k ≡ Some i
-    → ideal_named i.name (map ideal_entry is) ≡ Some (printed_generators i.generators)
-ideal_found [] k i apart e = absurd (no_ideal i e)
-ideal_found (j ∷ is) zero i apart e =
-    subst (λ (x : Ideal). ideal_named x.name (map ideal_entry (j ∷ is)) ≡ Some (printed_generators x.generators)) (same_some e)
-    (ap (λ b. if b then Some (printed_generators j.generators) else ideal_named j.name (map ideal_entry is)) (same_itself j.name))
-ideal_found (j ∷ is) (suc k) i apart e = by_test (same_bytes j.name i.name) refl (ideal_found is k i apart.1 e)
-  where
-    by_test : (b : Bool) → same_bytes j.name i.name ≡ b → ideal_named i.name (map ideal_entry is) ≡ Some (printed_generators i.generators)
-        → (if b then Some (printed_generators j.generators) else ideal_named i.name (map ideal_entry is)) ≡ Some (printed_generators i.generators)
-    by_test true same rest = absurd (absent_at j.name is k i apart.0 e (same_means_equal j.name i.name same))
-    by_test false same rest = rest
+      verdict_is : verdict_of q.ring q.ideals query kinds.Class (stage_found b e, tt) (block ∷ []) [] ≡ Some (zero_class 1 (resolved q.ring (f ∷ []) block) e (meant q.ring (z ∷ [])) (stage_found b e))
+      verdict_is =
+          ap (λ o. Rattle.std.specs.Prelude.option_map (λ fs. zero_class 1 (resolved q.ring fs block) e (meant q.ring (z ∷ [])) (stage_found b e)) (Rattle.std.specs.Prelude.option_map (λ (x : Ideal). x.generators) o)) there
+          ∙ ap (λ fs. Some (zero_class 1 (resolved q.ring fs block) e (meant q.ring (z ∷ [])) (stage_found b e))) single
 
--- ---- queries
--- one report, which can be written and is right
-record IsGood (r : Ring) (ideals : List (Bytes × List Terms)) (rs : List QueryReport) : Type 0 where
-  report : QueryReport
-  is : rs ≡ report ∷ []
-  question : IsWritableQuestion r.vars ideals report.question
-  ended : IsWritableEnd r.vars report report.end
-  right : IsRightEnd r.prime r.vars report report.end
+      answered_good : GoodBlock (ended_class q 1 m e (z ∷ []) (f ∷ []) (answered (t ∷ []) b))
+      answered_good = record {
+        writable = answer_writable q sound small k few query of low kinds.Class (stage_found b e, tt) refl refl (stage_small b, tt) m 1 of.1 (omega arith) about ds ts grids (omega arith) (omega arith) (omega arith);
+        holds = subst AllHold
+            (sym (answer_says q sound small k few query of low kinds.Class (stage_found b e, tt) refl refl (stage_small b, tt) m 1 of.1 (omega arith) about ds ts grids (omega arith) (omega arith) (omega arith)
+            ∙ ap (λ o. stated q.ring o ∷ []) verdict_is))
+            (verdict_holds, tt);
+      }
 
-answer_written : (n : ℕ) (b : Bool) (e : ℕ) → e ≤ STAGE → IsWritableAnswer n (principal_answer b e)
-answer_written n true e h = omega (arith, h)
-answer_written n false e h = tt
+    -- ---- either way
+    ended_good : (units : ℕ) (end : PlanEnd) → plan_end (column_vector q.ring (f ∷ [])) e (column_vector q.ring (z ∷ [])) units ≡ end → GoodBlock (ended_class q 1 m e (z ∷ []) (f ∷ []) end)
+    ended_good units (stopped task Budget) is = stopped_good kinds.Budget (task_name task, tt) refl tt ((task_some task, task_words task), tt)
+    ended_good units (stopped task Memory) is = stopped_good kinds.Budget (task_name task, tt) refl tt ((task_some task, task_words task), tt)
+    ended_good units (stopped task Exponent) is = stopped_good kinds.Exponents (task_name task, tt) refl tt ((task_some task, task_words task), tt)
+    ended_good units (answered theta b) is =
+        let one = theta_is_one q.ring f z e units theta b f_sound.canonical is in
+        subst (λ ts. GoodBlock (ended_class q 1 m e (z ∷ []) (f ∷ []) (answered ts b))) (sym one.1)
+        (answered_good one.0 b units one.2 one.3 (is ∙ ap (λ ts. answered ts b) one.1))
 
-reason_written : (task : Task) (stop : Stop) → list_all is_word (stop_word stop ∷ task_words task) ≡ true
-reason_written Lift Budget = refl
-reason_written Lift Exponent = refl
-reason_written Lift Memory = refl
-reason_written Stage Budget = refl
-reason_written Stage Exponent = refl
-reason_written Stage Memory = refl
+    class_good : (units : ℕ) → GoodBlock (ended_class q 1 m e (z ∷ []) a.generators (plan_end (column_vector q.ring a.generators) e (column_vector q.ring (z ∷ [])) units))
+    class_good units = subst (λ fs. GoodBlock (ended_class q 1 m e (z ∷ []) fs (plan_end (column_vector q.ring fs) e (column_vector q.ring (z ∷ [])) units))) (sym single)
+        (ended_good units (plan_end (column_vector q.ring (f ∷ [])) e (column_vector q.ring (z ∷ [])) units) refl)
 
-module _ (units : ℕ) (r : Ring) (ideals : List (Bytes × List Terms)) where
-  -- the class (e, z) of the ideal (f) with this name
-  module _ (name : Bytes) (f z : PolyValue) (e : ℕ) (f_canonical : IsCanonical r f.terms) (z_canonical : IsCanonical r z.terms) (some : f.terms ≢ [])
-      (f_within : AreWithinBound (pairs f.terms)) (z_within : AreWithinBound (pairs z.terms)) (low : e ≤ STAGE)
-      (is_a_name : is_name name ≡ true) (known : ideal_named name ideals ≡ Some (printed_generators (f ∷ []))) where
-    abbrev report : PlanEnd → QueryReport
-    report end = ended_report r.vars (question_on (record { name = name; generators = f ∷ [] }) 1 e (z ∷ [])) (f ∷ []) end
-
-    f_printable : ArePrintable r.vars (pairs f.terms)
-    f_printable = terms_printable r f.terms f_canonical.listed f_within
-
-    asked_well : IsWritableQuestion r.vars ideals (report (plans.stopped Lift Budget)).question
-    asked_well = (is_a_name, known, omega arith, omega (arith, low), (terms_printable r z.terms z_canonical.listed z_within, tt))
-
-    answered_good : (t : PolyValue) (b : Bool) → IsCanonical r t.terms → plan_end (column_vector r (f ∷ [])) e (column_vector r (z ∷ [])) units ≡ plans.answered (t ∷ []) b
-        → IsGood r ideals (report (plans.answered (t ∷ []) b) ∷ [])
-    answered_good t b canonical ends =
-        let t_printable = terms_printable r t.terms canonical.listed (theta_is_bounded r f z t e units b ends) in
-        record {
-          report = report (plans.answered (t ∷ []) b);
-          is = refl;
-          question = asked_well;
-          ended = (
-            answer_written r.vars b e low,
-            omega arith,
-            (omega arith, omega arith, ((f_printable, tt), tt), (omega arith, omega arith, tt, tt)),
-            (omega arith, omega arith, ((one_printable r.vars, tt), tt), (omega arith, omega arith, ((t_printable, tt), tt), tt)),
-          );
-          right = (
-            record { ideal = name; f = pairs f.terms; stage = e; z = pairs z.terms; theta = pairs t.terms; divides = b },
-            plan_is_right r f z t e units name b f_canonical z_canonical some ends,
-            refl,
-          );
-        }
-
-    ended_good : (end : PlanEnd) → plan_end (column_vector r (f ∷ [])) e (column_vector r (z ∷ [])) units ≡ end → IsGood r ideals (report end ∷ [])
-    ended_good (plans.stopped task stop) ends = record { report = report (plans.stopped task stop); is = refl; question = asked_well; ended = reason_written task stop; right = tt }
-    ended_good (plans.answered theta b) ends =
-        let t = theta_is_one r f z e units theta b f_canonical ends in
-        subst (λ ts. IsGood r ideals (report (plans.answered ts b) ∷ [])) (sym t.1)
-        (answered_good t.0 b t.3 (ends ∙ ap (λ ts. plans.answered ts b) t.1))
-
-    class_good : IsGood r ideals (class_report_of units r (record { name = name; generators = f ∷ [] }) 1 e (z ∷ []) ∷ [])
-    class_good = ended_good (plan_end (column_vector r (f ∷ [])) e (column_vector r (z ∷ [])) units) refl
-
-  -- a class of degree 1 of an ideal with one generator
-  one_generator : (name : Bytes) (fs zs : List PolyValue) (i e : ℕ) → IsIdealOf r (record { name = name; generators = fs }) → AllWithinBound fs
-      → ideal_named name ideals ≡ Some (printed_generators fs) → i ≡ 1 → length fs ≡ 1 → e ≤ STAGE → All (IsPolynomialOf r) zs → AllWithinBound zs → length zs ≡ 1
-      → IsGood r ideals (class_report_of units r (record { name = name; generators = fs }) i e zs ∷ [])
-  one_generator name [] zs i e sound w known degree one low all v single = absurd (omega (arith, one))
-  one_generator name (f ∷ g ∷ fs) zs i e sound w known degree one low all v single = absurd (omega (arith, one))
-  one_generator name (f ∷ []) [] i e sound w known degree one low all v single = absurd (omega (arith, single))
-  one_generator name (f ∷ []) (z ∷ y ∷ zs) i e sound w known degree one low all v single = absurd (omega (arith, single))
-  one_generator name (f ∷ []) (z ∷ []) i e sound w known degree one low all v single =
-      subst (λ j. IsGood r ideals (class_report_of units r (record { name = name; generators = f ∷ [] }) j e (z ∷ []) ∷ [])) (sym degree)
-      (class_good name f z e (All-head (IsPolynomialOf r) f [] sound.of_ring).canonical (All-head (IsPolynomialOf r) z [] all).canonical (All-head (λ (x : PolyValue). x.terms ≢ []) f [] sound.nonzero)
-      w.0 v.0 low (name_test name sound.named.name) known)
-
--- ---- problems
-module _ (units : ℕ) (q : Problem) (sound : IsProblem q) (within : IsWithinBound q) where
+  -- ---- queries
   not_true : false ≡ true → ⊥
   not_true e = cc
 
-  query_good : (z : Query) → IsQueryOf q z → is_built q.ideals z ≡ true → QueryWithinBound z → IsGood q.ring (map ideal_entry q.ideals) (query_reports units q z)
-  query_good (queries.TheVariants.Class i k e z) asked built w = go (slice_get q.ideals k) refl (and_parts _ _ (and_parts _ _ built).1).0
-    where
-      go : (o : Option Ideal) → slice_get q.ideals k ≡ o → is_principal o ≡ true
-          → IsGood q.ring (map ideal_entry q.ideals) (on_ideal o (λ ideal. class_report_of units q.ring ideal i e z))
-      go None is h = absurd (not_true h)
-      go (Some ideal) is h =
-          let good = ideal_at q.ring q.ideals k ideal is sound.ideals within.ideals in
-          one_generator units q.ring (map ideal_entry q.ideals) ideal.name ideal.generators z i e good.0 good.1 (ideal_found q.ideals k ideal sound.ideals_apart is)
-          (eqb-true i 1 (and_parts _ _ built).0) (eqb-true (length ideal.generators) 1 h) asked.2 asked.3 w (eqb-true (length z) 1 (and_parts _ _ (and_parts _ _ built).1).1)
-  query_good (queries.TheVariants.Zero i k) asked built w = absurd (not_true built)
-  query_good (queries.TheVariants.Root i k) asked built w = absurd (not_true built)
-  query_good (queries.TheVariants.Invert i k f) asked built w = absurd (not_true built)
-  query_good (queries.TheVariants.Support i k) asked built w = absurd (not_true built)
-  query_good (queries.TheVariants.Map i k j) asked built w = absurd (not_true built)
-  query_good (queries.TheVariants.Member k f) asked built w = absurd (not_true built)
-  query_good (queries.TheVariants.Resolution i k) asked built w = absurd (not_true built)
-  query_good (queries.TheVariants.ExtOf i k) asked built w = absurd (not_true built)
+  -- an ideal of the list is sound
+  ideal_at : (is : List Ideal) (m : ℕ) (a : Ideal) → slice_get is m ≡ Some a → All (IsIdealOf q.ring) is → AreSmallIdeals is → IsIdealOf q.ring a × AreSmall a.generators
+  ideal_at [] m a e all low = absurd (cc)
+  ideal_at (j ∷ is) zero a e all low = subst (λ (x : Ideal). IsIdealOf q.ring x × AreSmall x.generators) (Rattle.fm_algebra.specs.Poly.Some-same e) (All-head (IsIdealOf q.ring) j is all, low.0)
+  ideal_at (j ∷ is) (suc m) a e all low = ideal_at is m a e (All-tail (IsIdealOf q.ring) j is all) low.1
 
-  record AreGood (rs : List QueryReport) (count : ℕ) : Type 0 where
-    writable : AreWritableQueries q.ring.vars (map ideal_entry q.ideals) rs
-    right : AreRight q.ring.prime q.ring.vars rs
-    counted : length rs ≡ count
+  record GoodFrom (units k : ℕ) (bs : List QueryReport) : Type 0 where
+    writable : AreWritableBlocks q k bs
+    holds : AllHold (report_says q k bs)
 
-  queries_good : (zs : List Query) → All (IsQueryOf q) zs → All (λ z. is_built q.ideals z ≡ true) zs → QueriesWithinBound zs → AreGood (reports_of units q zs) (length zs)
-  queries_good [] asked built w = record { writable = tt; right = tt; counted = refl }
-  queries_good (z ∷ zs) asked built w =
-      let g = query_good z (All-head (IsQueryOf q) z zs asked) (All-head (λ y. is_built q.ideals y ≡ true) z zs built) w.0 in
-      let rest = queries_good zs (All-tail (IsQueryOf q) z zs asked) (All-tail (λ y. is_built q.ideals y ≡ true) z zs built) w.1 in
-      let long = rest.counted in
-      subst (λ rs. AreGood (rs ++ reports_of units q zs) (length (z ∷ zs))) (sym g.is)
-      (record { writable = (g.question, g.ended, rest.writable); right = (g.right, rest.right); counted = omega (arith, long) })
+  with_block : (units k : ℕ) (b : QueryReport) (bs : List QueryReport) → IsWritableBlock q k b → AllHold (block_says q k b) → GoodFrom units (suc k) bs → GoodFrom units k (b ∷ bs)
+  with_block units k b bs w h rest = record { writable = (w, rest.writable); holds = all_hold_append (block_says q k b) (report_says q (suc k) bs) h rest.holds }
 
-  all_good : AreGood (reports_of units q q.queries) (length q.queries)
-  all_good = queries_good q.queries sound.asked sound.built within.queries
+  single_of : (fs : List PolyValue) → nat_eq (length fs) 1 ≡ true → (f : PolyValue) × (fs ≡ f ∷ [])
+  single_of [] h = absurd (not_true h)
+  single_of (f ∷ []) h = (f, refl)
+  single_of (f ∷ g ∷ fs) h = absurd (let n = eqb-true (length (f ∷ g ∷ fs)) 1 h in omega (arith, n))
 
-  pub report_writable : IsWritable (report_of units q)
-  unfolding report_of
-  report_writable =
-      let long = all_good.counted in let few = sound.few_queries in
-      record {
-        names = names_written q.vars sound.variables sound.variables_apart;
-        ideals = subst (λ n. AreWritableIdeals n (map ideal_entry q.ideals)) (sym sound.bounded.named) (ideals_written q.ring q.ideals sound.ideals within.ideals);
-        few = omega (arith, long, few);
-        queries = subst (λ n. AreWritableQueries n (map ideal_entry q.ideals) (reports_of units q q.queries)) (sym sound.bounded.named) all_good.writable;
-      }
+  class_from : (units k i m e : ℕ) (z : List PolyValue) (bs : List QueryReport) → suc k < 2 ^ 64 → IsQueryOf q (queries.TheVariants.Class i m e z) → IsSmallQuery (queries.TheVariants.Class i m e z)
+      → is_built q.ideals (queries.TheVariants.Class i m e z) ≡ true → GoodFrom units (suc k) bs → (o : Option Ideal) → slice_get q.ideals m ≡ o → is_principal o ≡ true
+      → GoodFrom units k (class_answer units q i m e z o ++ bs)
+  class_from units k i m e z bs few of low built rest None is h = absurd (not_true h)
+  class_from units k i m e z bs few of low built rest (Some a) is h =
+      let degree : i ≡ 1 = eqb-true i 1 (and_parts _ _ built).0 in
+      let entry = single_of z (and_parts _ _ (and_parts _ _ built).1).1 in
+      let sole = single_of a.generators h in
+      let good = ideal_at q.ideals m a is sound.ideals small.ideals in
+      let P : ℕ → List PolyValue → Type 0 = λ j zs. GoodFrom units k (ended_class q j m e zs a.generators (plan_end (column_vector q.ring a.generators) e (column_vector q.ring zs) units) ∷ bs) in
+      let of' : IsQueryOf q (queries.TheVariants.Class 1 m e (entry.0 ∷ [])) = subst (λ zs. IsQueryOf q (queries.TheVariants.Class 1 m e zs)) entry.1 (subst (λ j. IsQueryOf q (queries.TheVariants.Class j m e z)) degree of) in
+      let low' : IsSmallQuery (queries.TheVariants.Class 1 m e (entry.0 ∷ [])) = subst AreSmall entry.1 low in
+      let f_sound = All-head (IsPolynomialOf q.ring) sole.0 [] (subst (All (IsPolynomialOf q.ring)) sole.1 good.0.of_ring) in
+      let f_small = (subst AreSmall sole.1 good.1).0 in
+      let f_some = All-head (λ (x : PolyValue). x.terms ≢ []) sole.0 [] (subst (All (λ (x : PolyValue). x.terms ≢ [])) sole.1 good.0.nonzero) in
+      let g = class_good k few m e entry.0 of' low' a is sole.0 sole.1 f_sound f_small f_some units in
+      let there : P 1 (entry.0 ∷ []) = with_block units k (ended_class q 1 m e (entry.0 ∷ []) a.generators (plan_end (column_vector q.ring a.generators) e (column_vector q.ring (entry.0 ∷ [])) units)) bs g.writable g.holds rest in
+      subst (λ j. P j z) (sym degree) (subst (P 1) (sym entry.1) there)
 
-  pub report_right : AreRight (report_of units q).prime (length (report_of units q).names) (report_of units q).queries
-  unfolding report_of
-  report_right = subst (λ n. AreRight q.ring.prime n (reports_of units q q.queries)) (sym sound.bounded.named) all_good.right
+  queries_good : (units k : ℕ) (zs : List Query) → k + length zs < 2 ^ 64 → All (IsQueryOf q) zs → AreSmallQueries zs → All (λ z. is_built q.ideals z ≡ true) zs → GoodFrom units k (answers units q zs)
+  queries_good units k [] few of low built = record { writable = tt; holds = tt }
+  queries_good units k (queries.TheVariants.Class i m e z ∷ zs) few of low built =
+      let b = All-head (λ x. is_built q.ideals x ≡ true) (queries.TheVariants.Class i m e z) zs built in
+      class_from units k i m e z (answers units q zs) (omega (arith, few)) (All-head (IsQueryOf q) (queries.TheVariants.Class i m e z) zs of) low.0 b
+      (queries_good units (suc k) zs (omega (arith, few)) (All-tail (IsQueryOf q) (queries.TheVariants.Class i m e z) zs of) low.1 (All-tail (λ x. is_built q.ideals x ≡ true) (queries.TheVariants.Class i m e z) zs built))
+      (slice_get q.ideals m) refl (and_parts _ _ (and_parts _ _ b).1).0
+  queries_good units k (queries.TheVariants.Zero i m ∷ zs) few of low built = absurd (not_true (All-head (λ x. is_built q.ideals x ≡ true) (queries.TheVariants.Zero i m) zs built))
+  queries_good units k (queries.TheVariants.Root i m ∷ zs) few of low built = absurd (not_true (All-head (λ x. is_built q.ideals x ≡ true) (queries.TheVariants.Root i m) zs built))
+  queries_good units k (queries.TheVariants.Invert i m f ∷ zs) few of low built = absurd (not_true (All-head (λ x. is_built q.ideals x ≡ true) (queries.TheVariants.Invert i m f) zs built))
+  queries_good units k (queries.TheVariants.Support i m ∷ zs) few of low built = absurd (not_true (All-head (λ x. is_built q.ideals x ≡ true) (queries.TheVariants.Support i m) zs built))
+  queries_good units k (queries.TheVariants.Map i m j ∷ zs) few of low built = absurd (not_true (All-head (λ x. is_built q.ideals x ≡ true) (queries.TheVariants.Map i m j) zs built))
+  queries_good units k (queries.TheVariants.Member m f ∷ zs) few of low built = absurd (not_true (All-head (λ x. is_built q.ideals x ≡ true) (queries.TheVariants.Member m f) zs built))
+  queries_good units k (queries.TheVariants.Resolution i m ∷ zs) few of low built = absurd (not_true (All-head (λ x. is_built q.ideals x ≡ true) (queries.TheVariants.Resolution i m) zs built))
+  queries_good units k (queries.TheVariants.ExtOf i m ∷ zs) few of low built = absurd (not_true (All-head (λ x. is_built q.ideals x ≡ true) (queries.TheVariants.ExtOf i m) zs built))
 
-pub text_holds : (text : Bytes) (units : ℕ) (q : Problem) → problem_of text ≡ Ok q → (front back : Bytes) → report_text (report_of units q) ≡ front ++ back → VerdictsHold front
-text_holds text units q h front back e =
-    let sound = problem_sound text q h in let within = problem_within text q h in
-    beginning_holds (report_of units q) front back (report_writable units q sound within) (report_right units q sound within) e
+  problem_holds : (units : ℕ) (front back : Bytes) → report_bytes units q ≡ front ++ back → VerdictsHold front
+  unfolding report_bytes
+  problem_holds units front back e =
+      let count = sound.few_queries in
+      let g = queries_good units 0 q.queries (omega (arith, count)) sound.asked small.queries sound.built in
+      report_holds q (answers units q q.queries) (record { problem = sound; exponents = small; blocks = g.writable }) g.holds front back e
+
+pub text_holds : (text : Bytes) (units : ℕ) (q : Problem) → problem_of text ≡ Ok q → (front back : Bytes) → report_bytes units q ≡ front ++ back → VerdictsHold front
+text_holds text units q h front back e = problem_holds q (problem_sound text q h) (problem_within text q h) units front back e

@@ -1,12 +1,12 @@
 -- The pieces of a report make the report.
-use Rattle.std.proofs.Common.{◌≡◌, ◌∙◌, ℕ, List, [], ◌∷◌, ◌++◌, map, codes, refl, sym, ap, ap₂, append_assoc, append-nil}
+use Rattle.std.proofs.Common.{◌≡◌, ◌∙◌, ℕ, List, [], ◌∷◌, ◌++◌, map, codes, sym, ap, ap₂, append_assoc}
 use Rattle.std.proofs.lemmas.Grind.{flat_map-append}
 use Rattle.fm_poly.specs.Texts.{Bytes}
 use Rattle.fm_problem.specs.declared.problem.Problem.{Problem}
-use Rattle.fm_report.specs.Writing.{ideal_words, line_text, query_lines, report_text}
+use Rattle.fm_writer.specs.Writing.{ideal_words, line_text, query_lines, report_text}
 use Rattle.fm_writer.specs.Heads.{head_lines}
 use Rattle.fm_writer.specs.Lines.{lines_text}
-use Rattle.fm_decide.specs.Reports.{ideal_entry, reports_of, report_of, all_answered}
+use Rattle.fm_decide.specs.Reports.{ideal_entry, reports_of, report_of}
 
 four_parts : (a b c d : List (List Bytes)) → lines_text (a ++ (b ++ (c ++ d))) ≡ lines_text a ++ (lines_text b ++ (lines_text c ++ lines_text d))
 four_parts a b c d =
@@ -32,7 +32,3 @@ report_written units q names s0 s1 s2 s3 s4 named e0 e1 e2 e3 e4 =
     e4 ∙ ap (λ s. s ++ last) (e3 ∙ ap (λ s. s ++ queries) (e2 ∙ ap (λ s. s ++ ideals) first))
     ∙ regrouped head ideals queries last
     ∙ sym (four_parts (head_lines q.ring.prime q.vars q.ring.order) (map (ideal_words q.vars) (map ideal_entry q.ideals)) (query_lines q.vars 1 (reports_of units q q.queries)) ((codes "end" ∷ codes "report" ∷ []) ∷ []))
-
-pub all_reported : (units : ℕ) (q : Problem) → all_answered (reports_of units q q.queries) ≡ all_answered (report_of units q).queries
-unfolding report_of
-all_reported units q = refl

@@ -1,5 +1,5 @@
 -- The report of a problem: each query, with the end of its plan.
-use Rattle.std.specs.Prelude.{ℕ, List, [], ◌∷◌, ◌++◌, map, length, replicate, slice_get, Option, Some, None, Bool, true, false, ◌&&◌, codes}
+use Rattle.std.specs.Prelude.{ℕ, List, [], ◌∷◌, ◌++◌, map, slice_get, Option, Some, None, Bool, true, false, ◌&&◌}
 use Rattle.fm_poly.specs.declared.ring.Ring.{Ring}
 use Rattle.fm_poly.specs.Polys.{PolyValue}
 use Rattle.fm_poly.specs.Texts.{Bytes, Terms}
@@ -7,15 +7,10 @@ use Rattle.fm_problem.specs.declared.problem.Problem.{Problem}
 use Rattle.fm_problem.specs.declared.ideal.Ideal.{Ideal}
 use Rattle.fm_problem.specs.declared.query.Query.{Query}
 use Rattle.fm_problem.specs.declared.query.Query as queries
-use Rattle.fm_complete.specs.declared.stop.Stop.{Stop}
-use Rattle.fm_complete.specs.declared.stop.Stop.TheVariants.{Budget, Exponent, Memory}
-use Rattle.fm_principal.specs.declared.task.Task.{Task}
-use Rattle.fm_principal.specs.declared.task.Task.TheVariants.{Lift, Stage}
-use Rattle.fm_principal.specs.Plans as plans
-use Rattle.fm_principal.specs.Plans.{PlanEnd, column_vector, plan_end}
-use Rattle.fm_report.specs.Statements.{PrintedMatrix, ClassQuestion, class}
-use Rattle.fm_report.specs.PrincipalQueries.{one_by_one, principal_answer}
-use Rattle.fm_report.specs.Writing.{End, answered, unanswered, QueryReport, Report}
+use Rattle.fm_principal.specs.Plans.{column_vector, plan_end}
+use Rattle.fm_writer.specs.Writing.{ClassQuestion}
+use Rattle.fm_principal.specs.Outcomes.{ended_report}
+use Rattle.fm_writer.specs.Writing.{End, answered, unanswered, QueryReport, Report}
 use Rattle.fm_writer.specs.Printed.{printed_vector}
 
 -- the generators as they are printed: that of the zero ideal is 0
@@ -29,39 +24,6 @@ ideal_entry i = (i.name, printed_generators i.generators)
 -- the question whether the class (e, z) of degree i of an ideal is zero in the limit
 abbrev pub question_on : Ideal → ℕ → ℕ → List PolyValue → ClassQuestion
 question_on ideal i e z = record { degree = i; ideal = ideal.name; generators = printed_generators ideal.generators; stage = e; vector = printed_vector z }
-
--- why a task stopped; want of memory ends no plan
-abbrev pub stop_word : Stop → Bytes
-stop_word Budget = codes "budget"
-stop_word Exponent = codes "exponents"
-stop_word Memory = codes "memory"
-
-abbrev pub task_words : Task → List Bytes
-task_words Lift = codes "lift" ∷ codes "1" ∷ []
-task_words Stage = codes "stage" ∷ codes "0" ∷ []
-
--- the matrix with one row, of these entries
-abbrev pub row_of : List Terms → PrintedMatrix
-row_of fs = record { rows = 1; columns = map (λ f. f ∷ []) fs }
-
--- the matrix with one column, of these entries
-abbrev pub column_of : List Terms → PrintedMatrix
-column_of fs = record { rows = length fs; columns = fs ∷ [] }
-
--- d_1 is the row of the generators, and d_2 has one row and no columns
-abbrev pub resolution_of : List PolyValue → List PrintedMatrix
-resolution_of fs = row_of (printed_vector fs) ∷ row_of [] ∷ []
-
--- theta_0 = (1), and the column theta_1, over n variables
-abbrev pub lift_of : ℕ → List PolyValue → List PrintedMatrix
-lift_of n theta = one_by_one ((replicate n 0, 1) ∷ []) ∷ column_of (printed_vector theta) ∷ []
-
--- the report of a question on an ideal with these generators, when its plan ended so
-abbrev pub ended_report : ℕ → ClassQuestion → List PolyValue → PlanEnd → QueryReport
-ended_report n q fs (plans.answered theta is_zero) =
-    record { question = class q; end = answered (principal_answer is_zero q.stage); resolution = resolution_of fs; lift = lift_of n theta }
-ended_report n q fs (plans.stopped task stop) =
-    record { question = class q; end = unanswered (stop_word stop ∷ task_words task); resolution = []; lift = [] }
 
 -- the report of a class, with this number of units for its plan
 abbrev pub class_report_of : ℕ → Ring → Ideal → ℕ → ℕ → List PolyValue → QueryReport

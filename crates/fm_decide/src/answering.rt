@@ -1,16 +1,16 @@
 // The report of a problem.
 ghost use Rattle.std.specs.Prelude.{All, IfOk, OnOk, [], length, map, string_bytes, true, ◌++◌, ◌+◌, ◌∷◌, ◌≡◌, ◌<◌, ◌≤◌, ◌^◌};
-ghost use Rattle.fm_decide.specs.Reports.{all_answered, class_report_of, ideal_entry, is_answered, query_reports, report_of, reports_of};
+ghost use Rattle.fm_decide.specs.Answers.{answers, are_answered, report_bytes};
+ghost use Rattle.fm_decide.specs.Reports.{all_answered, class_report_of, ideal_entry, is_answered, query_reports, reports_of};
 ghost use Rattle.fm_problem.specs.Problems.{is_built};
 ghost use Rattle.fm_problem.specs.Sound.{IsIdealOf, IsPolynomialOf, IsProblem, IsQueryOf};
-ghost use Rattle.fm_report.specs.Writing.{QueryReport, ideal_words, query_lines, report_text};
+ghost use Rattle.fm_writer.specs.Writing.{QueryReport, ideal_words, query_lines};
 ghost use Rattle.fm_writer.specs.Blocks.{block_lines};
 ghost use Rattle.fm_writer.specs.Lines.{lines_text};
 
 use crate::Answers;
-use crate::outcomes::outcome;
 use fm_poly::{Poly, Ring};
-use fm_principal::{ClassEnd, decide_class};
+use fm_principal::{ClassEnd, decide_class, outcome};
 use fm_problem::{Ideal, Problem, Query};
 use fm_writer::blocks::{ClassQuery, push_class};
 use fm_writer::heads::{push_head, push_ideal};
@@ -19,8 +19,8 @@ use std::alloc::{AllocError, Global};
 /// The report on the queries of a problem, with this number of units for each plan.
 pub fn answer(alloc: Global, problem: &Problem, units: u32) -> Result<Answers, AllocError>
     requires { IsProblem problem.now }
-    ensures report { IfOk result (λ a. a.report.items ≡ report_text (report_of units problem.now)) }
-    ensures all { IfOk result (λ a. a.all ≡ all_answered (report_of units problem.now).queries) }
+    ensures report { IfOk result (λ a. a.report.items ≡ report_bytes units problem.now) }
+    ensures all { IfOk result (λ a. a.all ≡ are_answered (answers units problem.now problem.now.queries)) }
 {
     let mut report = Vec::new(alloc);
     push_head(alloc, &mut report, problem.ring, problem.vars.as_slice())?;

@@ -5,7 +5,6 @@
 pub mod answering;
 pub mod answers;
 pub mod laws;
-pub mod outcomes;
 
 pub use answering::answer;
 pub use answers::Answers;

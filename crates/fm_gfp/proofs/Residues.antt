@@ -1,13 +1,14 @@
 -- Facts about the residues modulo the listed primes. All rest on one test of each residue, which is computed.
--- For a new prime of the list add its line to the table `all_pass`, and nothing else.
-use Rattle.std.proofs.Common.{ℕ, zero, suc, ◌+◌, ◌-◌, ◌*◌, ◌^◌, ◌%◌, ◌<◌, ◌≡◌, Bool, true, ◌&&◌, ◌||◌, nat_eq, nat_lt, refl, sym, ap, ◌∙◌, inl, inr, arith, subst, ◌⊎◌, mod-eq_of_lt}
+-- For a new prime of the list add its line to the table `listed`, and nothing else.
+use Rattle.std.proofs.Common.{ℕ, zero, suc, ◌+◌, ◌-◌, ◌*◌, ◌^◌, ◌%◌, ◌<◌, ◌≡◌, Bool, true, false, List, [], ◌∷◌, Option, Some, if◌then◌else◌, ◌&&◌, ◌||◌, nat_eq, nat_lt, refl, sym, ap, ◌∙◌, inl, inr, arith, subst, ◌⊎◌, mod-eq_of_lt}
+use Rattle.std.specs.List.{find}
 use Rattle.std.proofs.Math.Nat.{mod_self, mod-lt, mul-mod_right, zero-mod}
 use Rattle.std.proofs.lemmas.Nat.{pow-mod, mul-mod_first, mul-mod_second}
 use Rattle.std.proofs.lemmas.Bool.{agree_below, agree_below_at, and_parts, or_cases, eqb-true, ltb-true}
-use Rattle.fm_gfp.specs.Primes.{prime_value}
+use Rattle.fm_gfp.specs.Primes.{prime_of, prime_value, primes}
 use Rattle.fm_gfp.specs.Binomials.{choose}
 use Rattle.fm_gfp.specs.declared.prime.Prime.{Prime}
-use Rattle.fm_gfp.specs.declared.prime.Prime.TheVariants.{Two, Three, Five, Seven, Eleven, Thirteen}
+use Rattle.fm_gfp.specs.declared.prime.Prime.TheVariants.{Two, Three, Five, Seven, Eleven, Thirteen, Seventeen, Nineteen, TwentyThree, TwentyNine, ThirtyOne}
 use Rattle.fm_gfp.proofs.Binomials.{choose_by_place}
 
 -- k ^ p is k, and k is 0 or k ^ (p - 2) is its inverse
@@ -18,23 +19,60 @@ abbrev always : ℕ → Bool
 always k = true
 
 -- ---- the table
-all_pass : (p : Prime) → (nat_lt 1 (prime_value p) && agree_below (passes (prime_value p)) always (prime_value p)) ≡ true
-all_pass Two = refl
-all_pass Three = refl
-all_pass Five = refl
-all_pass Seven = refl
-all_pass Eleven = refl
-all_pass Thirteen = refl
+record IsListed (p : Prime) : Type 0 where
+  found : prime_of (prime_value p) ≡ Some p
+  small : (nat_lt 1 (prime_value p) && nat_lt (prime_value p) (2 ^ 8)) ≡ true
+  residues : agree_below (passes (prime_value p)) always (prime_value p) ≡ true
+
+listed : (p : Prime) → IsListed p
+listed Two = record { found = refl; small = refl; residues = refl }
+listed Three = record { found = refl; small = refl; residues = refl }
+listed Five = record { found = refl; small = refl; residues = refl }
+listed Seven = record { found = refl; small = refl; residues = refl }
+listed Eleven = record { found = refl; small = refl; residues = refl }
+listed Thirteen = record { found = refl; small = refl; residues = refl }
+listed Seventeen = record { found = refl; small = refl; residues = refl }
+listed Nineteen = record { found = refl; small = refl; residues = refl }
+listed TwentyThree = record { found = refl; small = refl; residues = refl }
+listed TwentyNine = record { found = refl; small = refl; residues = refl }
+listed ThirtyOne = record { found = refl; small = refl; residues = refl }
 
 -- ---- what follows
+-- a prime is found by its number
+pub prime_of_value : (p : Prime) → prime_of (prime_value p) ≡ Some p
+prime_of_value p = (listed p).found
+
+found_here : {X : Type 0} (f : X → Bool) (x y : X) (rest : Option X) (b : Bool) → f y ≡ b → (rest ≡ Some x → f x ≡ true)
+    → (if b then Some y else rest) ≡ Some x → f x ≡ true
+found_here f x y rest true e later h = cc
+found_here f x y rest false e later h = later h
+
+found_passes : {X : Type 0} (f : X → Bool) (xs : List X) (x : X) → find f xs ≡ Some x → f x ≡ true
+found_passes f [] x h = cc
+found_passes f (y ∷ ys) x h = found_here f x y (find f ys) (f y) refl (found_passes f ys x) h
+
+-- what is found has that number
+pub value_of_prime : (n : ℕ) (p : Prime) → prime_of n ≡ Some p → prime_value p ≡ n
+value_of_prime n p h = eqb-true (prime_value p) n (found_passes (λ q. nat_eq (prime_value q) n) primes p h)
+
 pub prime_above_one : (p : Prime) → 1 < prime_value p
-prime_above_one p = ltb-true 1 (prime_value p) (and_parts _ _ (all_pass p)).0
+prime_above_one p = ltb-true 1 (prime_value p) (and_parts _ _ (listed p).small).0
+
+pub prime_small : (p : Prime) → prime_value p < 2 ^ 8
+prime_small p = ltb-true (prime_value p) (2 ^ 8) (and_parts _ _ (listed p).small).1
+
+pub prime_in_64_bits : (p : Prime) → prime_value p < 2 ^ 64
+prime_in_64_bits p = omega (arith, prime_small p)
 
 pub prime_positive : (p : Prime) → 0 < prime_value p
 prime_positive p = omega (arith, prime_above_one p)
 
+-- 1 is a residue
+pub one_residue : (p : Prime) → 1 % prime_value p ≡ 1
+one_residue p = mod-eq_of_lt (prime_above_one p)
+
 passes_at : (p : Prime) (k : ℕ) → k < prime_value p → passes (prime_value p) k ≡ true
-passes_at p k below = agree_below_at (passes (prime_value p)) always (prime_value p) k (and_parts _ _ (all_pass p)).1 below
+passes_at p k below = agree_below_at (passes (prime_value p)) always (prime_value p) k (listed p).residues below
 
 -- k ^ p is k modulo p
 pub fermat : (p : Prime) (k : ℕ) → k < prime_value p → k ^ prime_value p % prime_value p ≡ k

@@ -1,8 +1,13 @@
 // Laws of the fields, over numbers.
-ghost use Rattle.std.specs.Prelude.{suc, ℕ, ◌%◌, ◌*◌, ◌+◌, ◌<◌, ◌^◌, ◌≡◌, ◌⊎◌};
+ghost use Rattle.std.specs.Prelude.{Some, suc, ℕ, ◌%◌, ◌*◌, ◌+◌, ◌<◌, ◌^◌, ◌↔◌, ◌≡◌, ◌⊎◌};
 ghost use Rattle.fm_gfp.specs.Binomials.{choose};
-ghost use Rattle.fm_gfp.specs.Primes.{prime_value};
+ghost use Rattle.fm_gfp.specs.Primes.{prime_of, prime_value};
 ghost use Rattle.fm_gfp.specs.declared.prime.Prime.{Prime};
+
+/// A prime of the list is the one that is found by its number, and a number that gives a prime is its number.
+pub fn primes_are_found_by_their_numbers()
+    ensures { (p : Prime) (n : ℕ) → (prime_of n ≡ Some p) ↔ (prime_value p ≡ n) }
+{}
 
 /// A product of two numbers is a listed prime only if one of them is 1: the listed numbers are prime.
 pub fn the_listed_numbers_are_prime()

@@ -1,7 +1,6 @@
 // The listed primes, and arithmetic modulo them.
-ghost use Rattle.std.specs.Prelude.{IfNone, IfSome, ◌%◌, ◌*◌, ◌+◌, ◌-◌, ◌<◌, ◌≡◌, ◌≢◌};
-ghost use Rattle.fm_gfp.specs.Primes.{prime_value};
-ghost use Rattle.fm_gfp.specs.declared.prime.Prime.{Prime};
+ghost use Rattle.std.specs.Prelude.{◌%◌, ◌*◌, ◌+◌, ◌-◌, ◌<◌, ◌≡◌};
+ghost use Rattle.fm_gfp.specs.Primes.{prime_of, prime_value};
 
 use crate::gf::Gf;
 
@@ -14,12 +13,17 @@ pub enum Prime {
     Seven,
     Eleven,
     Thirteen,
+    Seventeen,
+    Nineteen,
+    TwentyThree,
+    TwentyNine,
+    ThirtyOne,
 }
 
 impl Prime {
+    /// The prime of the list that `n` is.
     pub fn of(n: u64) -> Option<Prime>
-        ensures some { IfSome result (λ p. prime_value p ≡ n) }
-        ensures none { IfNone result ((p : Prime) → prime_value p ≢ n) }
+        ensures { result ≡ prime_of n }
     {
         match n {
             2 => Some(Prime::Two),
@@ -28,6 +32,11 @@ impl Prime {
             7 => Some(Prime::Seven),
             11 => Some(Prime::Eleven),
             13 => Some(Prime::Thirteen),
+            17 => Some(Prime::Seventeen),
+            19 => Some(Prime::Nineteen),
+            23 => Some(Prime::TwentyThree),
+            29 => Some(Prime::TwentyNine),
+            31 => Some(Prime::ThirtyOne),
             _ => None,
         }
     }
@@ -42,6 +51,11 @@ impl Prime {
             Prime::Seven => 7,
             Prime::Eleven => 11,
             Prime::Thirteen => 13,
+            Prime::Seventeen => 17,
+            Prime::Nineteen => 19,
+            Prime::TwentyThree => 23,
+            Prime::TwentyNine => 29,
+            Prime::ThirtyOne => 31,
         }
     }
 

@@ -2,9 +2,9 @@
 use crate::prime::Prime;
 
 #[test]
-fn primes_below_twenty(rt: HostRuntime) {
-    for n in 0..20 {
-        let listed = [2, 3, 5, 7, 11, 13].contains(&n);
+fn primes_below_forty(rt: HostRuntime) {
+    for n in 0..40 {
+        let listed = [2, 3, 5, 7, 11, 13, 17, 19, 23, 29, 31].contains(&n);
         match Prime::of(n) {
             Some(p) => assert_eq!(rt; (u64::from(p.value()), listed), (n, true)),
             None => assert!(rt; !listed, "{n}"),
@@ -29,4 +29,28 @@ fn residues_modulo_thirteen(rt: HostRuntime) {
     assert_eq!(rt; p.mul(p.element(12), p.element(11)).number(), 2);
     assert_eq!(rt; p.neg(three).number(), 10);
     assert_eq!(rt; p.neg(p.element(26)).number(), 0);
+}
+
+// Inverses modulo 31, by hand.
+#[test]
+fn residues_modulo_thirty_one(rt: HostRuntime) {
+    let p = Prime::ThirtyOne;
+    for (a, b) in [
+        (1, 1),
+        (2, 16),
+        (3, 21),
+        (4, 8),
+        (5, 25),
+        (6, 26),
+        (7, 9),
+        (30, 30),
+    ] {
+        assert_eq!(rt; p.inverse(p.element(a)).number(), b, "{a}");
+    }
+    let last = p.element(30);
+    assert_eq!(rt; p.mul(last, last).number(), 1);
+    assert_eq!(rt; p.add(last, last).number(), 29);
+    assert_eq!(rt; p.sub(p.element(0), last).number(), 1);
+    assert_eq!(rt; p.neg(last).number(), 1);
+    assert_eq!(rt; p.element(18_446_744_073_709_551_615).number(), 15);
 }

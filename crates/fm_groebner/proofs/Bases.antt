@@ -10,7 +10,8 @@ use Rattle.fm_algebra.proofs.Gf.{gf_laws, gf_field}
 use Rattle.fm_algebra.proofs.Tables.{length-apply}
 use Rattle.fm_algebra.proofs.Algebra.{mul_zero}
 use Rattle.fm_groebner.proofs.Vectors.{length_vector}
-use Rattle.fm_groebner.specs.Terms.{Term, vector_of, vectors_of}
+use Rattle.fm_term.specs.declared.vterm.VTerm.{VTerm}
+use Rattle.fm_term.specs.Meanings.{vector_of, vectors_of}
 use Rattle.fm_groebner.specs.Bases.{IsHead, generators, HeadDivides, IsGroebnerBasis}
 use Rattle.fm_groebner.proofs.Setting as setting
 use Rattle.fm_groebner.proofs.Setting.{Vect, Family, In, in_map, lin_zero, lin_comb, shift, Span, Divides, IsGroebner, IsNil, Reduces, done, step}
@@ -55,27 +56,27 @@ module _ (p : Prime) (n m : ℕ) (o : Order) where
   image_vector gens s = vector_of_span (ordered o n) (gf p) (gf_laws p) (gf_is_zero p) m gens s
 
   -- ---- from functions to vectors of polynomials
-  basis_heads : (ms : List (List Term)) (i : ℕ) (a : Monomial n) → 0 < i → i ≤ m → Divides X (Members p n m o ms) (m - i, a) → HeadDivides p n o (vectors_of p n m ms) i a.exponents
+  basis_heads : (ms : List (List VTerm)) (i : ℕ) (a : Monomial n) → 0 < i → i ≤ m → Divides X (Members p n m o ms) (m - i, a) → HeadDivides p n o (vectors_of p n m ms) i a.exponents
   basis_heads ms i a pos within d = at_member d.by d.in_G.1 d.is
     where
       at_member : (b : Monomial n) {g : Vect X} {h : ℕ × Monomial n} → MemberAt p n m o ms d.in_G.0 g h → X.◌•◌ b h ≡ (m - i, a) → HeadDivides p n o (vectors_of p n m ms) i a.exponents
       at_member b (member_at {x = []} f mo j) e = absurd mo
       at_member b (member_at {x = t ∷ ts} f mo j) e =
-          let ft = fits_of p n m o t f.0 in
+          let ft = fits_of p n m o t f in
           let level : m - t.component ≡ m - i = ap (λ z. z.0) e in
           let same : t.component ≡ i = omega (arith, level, within, ft.within) in
           record {
             member = vector_of p n m (t ∷ ts);
-            exponents = t.exponents;
+            exponents = t.mono;
             is_member = contains_of_in (in_map (vector_of p n m) (in_of_number j));
-            is_head = subst (λ k. IsHead p n o (vector_of p n m (t ∷ ts)) k t.exponents) same
+            is_head = subst (λ k. IsHead p n o (vector_of p n m (t ∷ ts)) k t.mono) same
                 (head_from p n m o (vector_of p n m (t ∷ ts)) (length_vector p n m (t ∷ ts)) t.component (head_place p n m o (t ∷ ts) f).1 ft.positive ft.within (head_of_terms p n m o t ts f));
-            divides = subst (TupleDivides t.exponents) (ap (λ z. z.1.exponents) e)
-                (subst (λ z. TupleDivides t.exponents z.exponents) (times_comm (head_place p n m o (t ∷ ts) f).1 b) (divides_times (head_place p n m o (t ∷ ts) f).1 b));
+            divides = subst (TupleDivides t.mono) (ap (λ z. z.1.exponents) e)
+                (subst (λ z. TupleDivides t.mono z.exponents) (times_comm (head_place p n m o (t ∷ ts) f).1 b) (divides_times (head_place p n m o (t ∷ ts) f).1 b));
           }
 
   -- a basis of monic lists of terms is one of the vectors of polynomials
-  pub basis_of_members : (ms : List (List Term)) (gens : List (List (Polynomial p n))) → AllMonic p n m o ms → IsGroebner X (Members p n m o ms) (Generated gens) → IsGroebnerBasis p n m o (vectors_of p n m ms) gens
+  pub basis_of_members : (ms : List (List VTerm)) (gens : List (List (Polynomial p n))) → AllMonic p n m o ms → IsGroebner X (Members p n m o ms) (Generated gens) → IsGroebnerBasis p n m o (vectors_of p n m ms) gens
   basis_of_members ms gens well basis = record {
     inside = λ g c. inside g (in_of_map (vector_of p n m) ms (in_of_contains (vectors_of p n m ms) g c));
     heads = λ v i a im hd.
@@ -83,7 +84,7 @@ module _ (p : Prime) (n m : ℕ) (o : Order) where
         basis_heads ms i (record { exponents = a; fits = h.2 }) h.0 h.1 (basis.heads (W v) (m - i, record { exponents = a; fits = h.2 }) (span_of gens v im) h.3);
   }
     where
-      inside : (g : List (Polynomial p n)) → (x : List Term) × In ms x × (vector_of p n m x ≡ g) → InImage p n (generators p n m gens) g
+      inside : (g : List (Polynomial p n)) → (x : List VTerm) × In ms x × (vector_of p n m x ≡ g) → InImage p n (generators p n m gens) g
       inside g x =
           let k = number_of_in x.1 in
           let w = well k.0 x.0 k.1 in

@@ -13,7 +13,8 @@ use Rattle.fm_algebra.proofs.Gf.{gf_laws}
 use Rattle.fm_algebra.proofs.Poly.{same_at_tuples}
 use Rattle.fm_algebra.proofs.PolyRing.{coeff_zero, coeff_add}
 use Rattle.fm_algebra.proofs.Concrete.{polynomials_laws}
-use Rattle.fm_groebner.specs.Terms.{Term, IsFalling}
+use Rattle.fm_term.specs.declared.vterm.VTerm.{VTerm}
+use Rattle.fm_term.specs.Falling.{IsFalling}
 use Rattle.fm_groebner.specs.Graphs.{zero_vector}
 use Rattle.fm_groebner.proofs.Monomials.{Monomial}
 use Rattle.fm_groebner.proofs.Ordered.{ordered}
@@ -91,7 +92,7 @@ module _ (p : Prime) (n : ℕ) (o : Order) where
     ]
 
     -- a falling list whose head is not in the upper block is zero there
-    pub upper_of_rest : (r : List Term) → IsFalling p n (m + c) o r → ((s : Term) (rs : List Term) (f : IsFalling p n (m + c) o (s ∷ rs)) → r ≡ s ∷ rs → ¬ (Upper (head_place p n (m + c) o (s ∷ rs) f)))
+    pub upper_of_rest : (r : List VTerm) → IsFalling p n (m + c) o r → ((s : VTerm) (rs : List VTerm) (f : IsFalling p n (m + c) o (s ∷ rs)) → r ≡ s ∷ rs → ¬ (Upper (head_place p n (m + c) o (s ∷ rs) f)))
         → (b : ℕ × Monomial n) → Upper b → list_value p n (m + c) o r b ≡ (gf p).zero
     upper_of_rest [] f low b up = val_nil p n (m + c) o b
     upper_of_rest (s ∷ rs) f low b up = (head_of_terms p n (m + c) o s rs f).1 b (inl (lower_level (head_place p n (m + c) o (s ∷ rs) f) b (low s rs f refl) up))

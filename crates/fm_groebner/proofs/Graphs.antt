@@ -1,5 +1,5 @@
 -- Kernels and images from a Gröbner basis of the graph of a matrix.
-use Rattle.std.proofs.Common.{◌≡◌, ◌↔◌, inl, inr, ℕ, ◌+◌, ◌<◌, ◌≤◌, List, [], ◌∷◌, ◌++◌, map, length, replicate, drop, get_or, Contains, refl, sym, ap, ap₂, ◌∙◌, subst, arith}
+use Rattle.std.proofs.Common.{◌≡◌, ◌↔◌, inl, inr, ℕ, ◌+◌, ◌<◌, ◌≤◌, List, [], ◌∷◌, ◌++◌, map, length, replicate, drop, get_or, Contains, refl, sym, ap, ap₂, ◌∙◌, subst, arith, Bool}
 use Rattle.std.proofs.lemmas.List.{length-append, length-map, length-replicate}
 use Rattle.fm_gfp.specs.declared.prime.Prime.{Prime}
 use Rattle.fm_mono.specs.declared.order.Order.{Order}
@@ -13,7 +13,9 @@ use Rattle.fm_algebra.proofs.Algebra.{mul_zero, neg_unique, neg_zero}
 use Rattle.fm_algebra.proofs.Tables.{length-apply}
 use Rattle.fm_algebra.proofs.Concrete.{polynomials_laws}
 use Rattle.fm_groebner.proofs.Vectors.{length_vector}
-use Rattle.fm_groebner.specs.Terms.{Term, IsFalling, vector_of, vectors_of}
+use Rattle.fm_term.specs.declared.vterm.VTerm.{VTerm}
+use Rattle.fm_term.specs.Falling.{IsFalling}
+use Rattle.fm_term.specs.Meanings.{vector_of, vectors_of}
 use Rattle.fm_groebner.specs.Bases.{generators}
 use Rattle.fm_groebner.specs.Logs.{ReducesBy, IsIrreducible}
 use Rattle.fm_groebner.specs.Graphs.{graph, unit_vector, IsGraphBasis, zero_vector, vector_negative, AreLowerBlocks}
@@ -157,8 +159,8 @@ module _ (p : Prime) (n : ℕ) (o : Order) where
         kernel_of_graph w = (kernel_to_image w, image_to_kernel w)
 
     -- ---- the image
-    module _ (ms : List (List Term)) (falling : (x : List Term) → Contains ms x → IsFalling p n (m + c) o x) (basis : IsGraphBasis p n o A (vectors_of p n (m + c) ms))
-        {by : List ℕ} {t r : List Term} (red : ReducesBy p n (m + c) o ms by t r) (falls : IsFalling p n (m + c) o t) (v : List (Polynomial p n)) (fits : length v ≡ m)
+    module _ {bound : List ℕ → Bool} (ms : List (List VTerm)) (falling : (x : List VTerm) → Contains ms x → IsFalling p n (m + c) o x) (basis : IsGraphBasis p n o A (vectors_of p n (m + c) ms))
+        {by : List ℕ} {t r : List VTerm} (red : ReducesBy p n (m + c) o bound ms by t r) (falls : IsFalling p n (m + c) o t) (v : List (Polynomial p n)) (fits : length v ≡ m)
         (is : vector_of p n (m + c) t ≡ v ++ zero_vector p n c) where
       abbrev Z : setting.Setting
       Z = space p n (m + c) o
@@ -249,7 +251,7 @@ module _ (p : Prime) (n : ℕ) (o : Order) where
             (upper_same p n o m c v x (zero_vector p n c) fits b up ∙ ap (λ u. U u b) (sym is))
             ∙ sym (diff_back (gf_laws p) (list_value p n (m + c) o r b) (list_value p n (m + c) o t b))
 
-        head_low : (s : Term) (rs : List Term) (f : IsFalling p n (m + c) o (s ∷ rs)) → r ≡ s ∷ rs → ¬ (Upper (head_place p n (m + c) o (s ∷ rs) f))
+        head_low : (s : VTerm) (rs : List VTerm) (f : IsFalling p n (m + c) o (s ∷ rs)) → r ≡ s ∷ rs → ¬ (Upper (head_place p n (m + c) o (s ∷ rs) f))
         head_low s rs f e up = divides_listed p n (m + c) o ms falling s rs f (subst (IsIrreducible ms) e irreducible)
             (basis_family.heads Y (head_place p n (m + c) o (s ∷ rs) f) y_span y_head)
           where

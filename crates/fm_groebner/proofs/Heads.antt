@@ -14,7 +14,7 @@ use Rattle.fm_algebra.specs.Polynomials.{Polynomial, polynomials, coefficient, p
 use Rattle.fm_algebra.proofs.Gf.{gf_laws}
 use Rattle.fm_algebra.proofs.Poly.{coeff_fixed}
 use Rattle.fm_algebra.proofs.PolyRing.{coeff_zero}
-use Rattle.fm_groebner.specs.Terms.{place_cmp}
+use Rattle.fm_term.specs.Places.{place_cmp}
 use Rattle.fm_groebner.specs.Bases.{vector_component, IsHead}
 use Rattle.fm_groebner.proofs.Setting as setting
 use Rattle.fm_groebner.proofs.Monomials.{Monomial}

@@ -27,3 +27,5 @@ pub mod Reductions
 pub mod Consequences
 pub mod Determined
 pub mod Examples
+pub mod Syzygies
+pub mod Shown

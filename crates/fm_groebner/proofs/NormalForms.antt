@@ -16,7 +16,11 @@ use Rattle.fm_algebra.proofs.Gf.{gf_laws}
 use Rattle.fm_algebra.proofs.Concrete.{polynomials_laws}
 use Rattle.fm_algebra.proofs.TwistWords.{twist_of_terms}
 use Rattle.fm_groebner.proofs.Vectors.{length_vector, component_of_vector}
-use Rattle.fm_groebner.specs.Terms.{Term, IsTerm, IsAboveFirst, IsFalling, terms_in, vector_of, twisted_term, twisted_terms}
+use Rattle.fm_term.specs.declared.vterm.VTerm.{VTerm}
+use Rattle.fm_term.specs.Places.{AllBelow}
+use Rattle.fm_term.specs.Falling.{IsTerm, IsFalling}
+use Rattle.fm_term.specs.Multiples.{twisted_term, twisted}
+use Rattle.fm_term.specs.Meanings.{terms_in, vector_of}
 use Rattle.fm_groebner.specs.Bases.{IsHead}
 use Rattle.fm_groebner.proofs.Setting as setting
 use Rattle.fm_groebner.proofs.Setting.{Vect, In, here, there, IsFinite, IsNil}
@@ -32,60 +36,61 @@ use Rattle.fm_groebner.proofs.TermValues.{space, list_value, vector_value, fits_
 use Rattle.fm_groebner.proofs.MonicLists.{head_place}
 use Rattle.fm_groebner.proofs.GraphMatrices.{same_components}
 use Rattle.fm_groebner.proofs.Twists.{component_map, twist_zero_is, multiple_cmp}
+use Rattle.fm_term.proofs.Falling.{later, nothing_falls, with_greater, all_below}
 
 module _ (p : Prime) (n m : ℕ) (o : Order) where
   abbrev X : setting.Setting
   X = space p n m o
 
   -- ---- at most one
-  same_term : (t u : Term) → t.component ≡ u.component → t.exponents ≡ u.exponents → t.coefficient ≡ u.coefficient → t ≡ u
-  same_term t u a b c = λ i. record { component = a i; exponents = b i; coefficient = c i }
+  same_term : (t u : VTerm) → t.component ≡ u.component → t.mono ≡ u.mono → t.coeff ≡ u.coeff → t ≡ u
+  same_term t u a b c = λ i. record { component = a i; mono = b i; coeff = c i }
 
-  pub same_terms : (ts us : List Term) → IsFalling p n m o ts → IsFalling p n m o us → ((b : ℕ × Monomial n) → list_value p n m o ts b ≡ list_value p n m o us b) → ts ≡ us
+  pub same_terms : (ts us : List VTerm) → IsFalling p n m o ts → IsFalling p n m o us → ((b : ℕ × Monomial n) → list_value p n m o ts b ≡ list_value p n m o us b) → ts ≡ us
   same_terms [] us f g e = sym (empty_of_nil p n m o us g (λ b. sym (e b) ∙ val_nil p n m o b))
   same_terms (t ∷ ts) [] f g e = empty_of_nil p n m o (t ∷ ts) f (λ b. e b ∙ val_nil p n m o b)
   same_terms (t ∷ ts) (u ∷ us) f g e =
       let place = head_one X (head_of_terms p n m o t ts f) (head_eq X e (head_of_terms p n m o u us g)) in
       let level : m - t.component ≡ m - u.component = ap (λ z. z.0) place in
-      let a = f.0.1 in
-      let b = g.0.1 in
+      let a = f.within.1 in
+      let b = g.within.1 in
       let first : t ≡ u = same_term t u (omega (arith, level, a, b)) (ap (λ z. z.1.exponents) place) (same_number (
       sym (val_head p n m o t ts f) ∙ e (head_place p n m o (t ∷ ts) f) ∙ ap (list_value p n m o (u ∷ us)) place ∙ val_head p n m o u us g)) in
-      ap₂ (λ x y. x ∷ y) first (same_terms ts us f.2 g.2 (λ c. add_cancel (gf_laws p) (list_value p n m o (t ∷ []) c) (list_value p n m o ts c) (list_value p n m o us c)
+      ap₂ (λ x y. x ∷ y) first (same_terms ts us (later f) (later g) (λ c. add_cancel (gf_laws p) (list_value p n m o (t ∷ []) c) (list_value p n m o ts c) (list_value p n m o us c)
       (sym (val_cons p n m o t ts c) ∙ e c ∙ val_cons p n m o u us c ∙ ap (λ z. (gf p).add (list_value p n m o (z ∷ []) c) (list_value p n m o us c)) (sym first))))
     where
-      same_number : number p n m o t.coefficient ≡ number p n m o u.coefficient → t.coefficient ≡ u.coefficient
-      same_number q = sym (mod-eq_of_lt f.0.4) ∙ ap (λ x. x.number) q ∙ mod-eq_of_lt g.0.4
+      same_number : number p n m o t.coeff ≡ number p n m o u.coeff → t.coeff ≡ u.coeff
+      same_number q = sym (mod-eq_of_lt f.proper.0.below) ∙ ap (λ x. x.number) q ∙ mod-eq_of_lt g.proper.0.below
 
-  pub terms_unique : (ts us : List Term) → IsFalling p n m o ts → IsFalling p n m o us → vector_of p n m ts ≡ vector_of p n m us → ts ≡ us
+  pub terms_unique : (ts us : List VTerm) → IsFalling p n m o ts → IsFalling p n m o us → vector_of p n m ts ≡ vector_of p n m us → ts ≡ us
   terms_unique ts us f g e = same_terms ts us f g (λ b. ap (λ v. vector_value p n m o v b) e)
 
   -- ---- at least one
   abbrev pub Normal : Vect X → Type 0
-  Normal u = (ts : List Term) × IsFalling p n m o ts × ((b : ℕ × Monomial n) → list_value p n m o ts b ≡ u b)
+  Normal u = (ts : List VTerm) × IsFalling p n m o ts × ((b : ℕ × Monomial n) → list_value p n m o ts b ≡ u b)
 
-  above_first : (t : Term) (f : Fits p n m o t) (ts : List Term) → IsFalling p n m o ts → ((b : ℕ × Monomial n) → ¬ (X.Less b (place_of p n m o t f)) → list_value p n m o ts b ≡ (gf p).zero) → IsAboveFirst o t ts
+  above_first : (t : VTerm) (f : Fits p n m o t) (ts : List VTerm) → IsFalling p n m o ts → ((b : ℕ × Monomial n) → ¬ (X.Less b (place_of p n m o t f)) → list_value p n m o ts b ≡ (gf p).zero) → AllBelow o t ts
   above_first t f [] g z = tt
   above_first t f (s ∷ ss) g z =
-      let fs = fits_of p n m o s g.0 in
-      cmp_of_less o n m s.component t.component (head_place p n m o (s ∷ ss) g).1 (place_of p n m o t f).1 fs.within f.within
-      (place_in X (below_segment X (place_of p n m o t f)) (list_value p n m o (s ∷ ss)) z (head_place p n m o (s ∷ ss) g) (head_of_terms p n m o s ss g).0)
+      let fs = fits_of p n m o s g in
+      all_below t s ss (cmp_of_less o n m s.component t.component (head_place p n m o (s ∷ ss) g).1 (place_of p n m o t f).1 fs.within f.within
+      (place_in X (below_segment X (place_of p n m o t f)) (list_value p n m o (s ∷ ss)) z (head_place p n m o (s ∷ ss) g) (head_of_terms p n m o s ss g).0)) g
 
   module _ (u : Vect X) (outside : (b : ℕ × Monomial n) → ¬ (b.0 < m) → u b ≡ (gf p).zero) (finite : IsFinite X u) (a : ℕ × Monomial n) (hd : setting.IsHead X u a) where
     inside : a.0 < m
     inside = elim (dec_lt a.0 m) [ yes l ↦ l | no w ↦ absurd (hd.0 (outside a w)) ]
 
-    abbrev first_term : Term
-    first_term = record { component = m - a.0; exponents = a.1.exponents; coefficient = (u a).number }
+    abbrev first_term : VTerm
+    first_term = record { component = m - a.0; mono = a.1.exponents; coeff = (u a).number }
 
-    is_term : IsTerm p n m first_term
-    is_term = (omega (arith, inside), omega arith, a.1.fits, positive, (u a).below)
+    is_term : IsTerm p n first_term
+    is_term = record { fits = a.1.fits; positive = positive; below = (u a).below }
       where
         positive : 0 < (u a).number
         positive = elim (ℕ_discrete (u a).number 0) [ yes z ↦ absurd (hd.0 (zero_of_number p n m o (u a) z)) | no w ↦ omega (arith, w) ]
 
     term_fits : Fits p n m o first_term
-    term_fits = fits_of p n m o first_term is_term
+    term_fits = record { positive = omega (arith, inside); within = omega arith; exponents = a.1.fits }
 
     term_place : place_of p n m o first_term term_fits ≡ a
     term_place = same_place (omega (arith, inside)) (same_monomial (place_of p n m o first_term term_fits).1 a.1 refl)
@@ -134,12 +139,12 @@ module _ (p : Prime) (n m : ℕ) (o : Order) where
     unfolding remaining
     with_first (ts, f, e) = (
       first_term ∷ ts,
-      (is_term, above_first first_term term_fits ts f (λ b w. e b ∙ remaining_above b (λ l. w (subst (X.Less b) (sym term_place) l))), f),
+      with_greater term_fits.positive term_fits.within is_term (above_first first_term term_fits ts f (λ b w. e b ∙ remaining_above b (λ l. w (subst (X.Less b) (sym term_place) l)))) f,
       λ b. val_cons p n m o first_term ts b ∙ ap ((gf p).add (list_value p n m o (first_term ∷ []) b)) (e b) ∙ sym (sum_back (gf_laws p) (list_value p n m o (first_term ∷ []) b) (u b)),
     )
 
   nil_normal : (u : Vect X) → IsNil X u → Normal u
-  nil_normal u z = ([], tt, λ b. val_nil p n m o b ∙ sym (z b))
+  nil_normal u z = ([], nothing_falls, λ b. val_nil p n m o b ∙ sym (z b))
 
   normal_at : (a : ℕ × Monomial n) → Acc X.Less a → (u : Vect X) → ((b : ℕ × Monomial n) → ¬ (b.0 < m) → u b ≡ (gf p).zero) → IsFinite X u → setting.IsHead X u a → Normal u
   normal_at a (Acc.intro a' smaller) = λ u out fin hd. with_first u out fin a hd (elim (head_of_finite X (remaining_finite u out fin a hd)) [
@@ -154,28 +159,28 @@ module _ (p : Prime) (n m : ℕ) (o : Order) where
   ]
 
   -- each vector of polynomials is that of a falling list
-  pub terms_of_vector : (v : List (Polynomial p n)) → length v ≡ m → (ts : List Term) × IsFalling p n m o ts × (vector_of p n m ts ≡ v)
+  pub terms_of_vector : (v : List (Polynomial p n)) → length v ≡ m → (ts : List VTerm) × IsFalling p n m o ts × (vector_of p n m ts ≡ v)
   terms_of_vector v l =
       let ts = normal_of (vector_value p n m o v) (λ b w. val_outside p n m o v b w) (value_finite (ordered o n) (gf p) (gf_laws p) (gf_is_zero p) m v) in
       (ts.0, ts.1, same_vector (ordered o n) (gf p) (gf_laws p) (gf_is_zero p) m (vector_of p n m ts.0) v (length_vector p n m ts.0) l ts.2)
 
   -- the head of a falling list is its first term
-  pub head_is_first : (t : Term) (ts : List Term) → IsFalling p n m o (t ∷ ts) → IsHead p n o (vector_of p n m (t ∷ ts)) t.component t.exponents
+  pub head_is_first : (t : VTerm) (ts : List VTerm) → IsFalling p n m o (t ∷ ts) → IsHead p n o (vector_of p n m (t ∷ ts)) t.component t.mono
   head_is_first t ts f =
-      let ft = fits_of p n m o t f.0 in
+      let ft = fits_of p n m o t f in
       head_from p n m o (vector_of p n m (t ∷ ts)) (length_vector p n m (t ∷ ts)) t.component (head_place p n m o (t ∷ ts) f).1 ft.positive ft.within (head_of_terms p n m o t ts f)
 
-  twisted_above : (e : ℕ) (t : Term) (ts : List Term) → IsAboveFirst o t ts → IsAboveFirst o (twisted_term p e t) (twisted_terms p e ts)
+  twisted_above : (e : ℕ) (t : VTerm) (ts : List VTerm) → AllBelow o t ts → AllBelow o (twisted_term (prime_value p ^ e) t) (twisted (prime_value p ^ e) ts)
   twisted_above e t [] a = tt
-  twisted_above e t (s ∷ ts) a = multiple_cmp p n m e o s.component t.component s.exponents t.exponents ∙ a
+  twisted_above e t (s ∷ ts) a = (multiple_cmp p n m e o s.component t.component s.mono t.mono ∙ a.0, twisted_above e t ts a.1)
 
-  pub twisted_falling : (e : ℕ) (ts : List Term) → IsFalling p n m o ts → IsFalling p n m o (twisted_terms p e ts)
-  twisted_falling e [] f = tt
-  twisted_falling e (t ∷ ts) f = (
-    (f.0.0, f.0.1, length_tuple_multiple (prime_value p ^ e) t.exponents ∙ f.0.2, f.0.3, f.0.4),
-    twisted_above e t ts f.1,
-    twisted_falling e ts f.2,
-  )
+  pub twisted_falling : (e : ℕ) (ts : List VTerm) → IsFalling p n m o ts → IsFalling p n m o (twisted (prime_value p ^ e) ts)
+  twisted_falling e [] f = nothing_falls
+  twisted_falling e (t ∷ ts) f =
+      let i = f.proper.0 in
+      with_greater f.within.0 f.within.1
+      (record { fits = length_tuple_multiple (prime_value p ^ e) t.mono ∙ i.fits; positive = i.positive; below = i.below })
+      (twisted_above e t ts f.falls.0) (twisted_falling e ts (later f))
 
 -- the vector of the twisted terms is the twist of the vector
 module _ (p : Prime) (n m : ℕ) where
@@ -186,16 +191,16 @@ module _ (p : Prime) (n m : ℕ) where
   twisted_in_by e true t ts = refl
   twisted_in_by e false t ts = refl
 
-  twisted_in : (e i : ℕ) (ts : List Term) → terms_in i (twisted_terms p e ts) ≡ map (twisted_pair e) (terms_in i ts)
+  twisted_in : (e i : ℕ) (ts : List VTerm) → terms_in i (twisted (prime_value p ^ e) ts) ≡ map (twisted_pair e) (terms_in i ts)
   unfolding terms_in
   twisted_in e i [] = refl
-  twisted_in e i (t ∷ ts) = let pair : List ℕ × ℕ = (t.exponents, t.coefficient) in
+  twisted_in e i (t ∷ ts) = let pair : List ℕ × ℕ = (t.mono, t.coeff) in
       ap (λ x. cond (eqb t.component i) (twisted_pair e pair ∷ x) x) (twisted_in e i ts) ∙ twisted_in_by e (eqb t.component i) pair (terms_in i ts)
 
   -- the vector of the twisted terms is the twist of the vector
-  pub vector_of_twisted : (e : ℕ) (ts : List Term) → vector_of p n m (twisted_terms p e ts) ≡ vector_twist p n e (vector_of p n m ts)
+  pub vector_of_twisted : (e : ℕ) (ts : List VTerm) → vector_of p n m (twisted (prime_value p ^ e) ts) ≡ vector_twist p n e (vector_of p n m ts)
   unfolding vector_twist
-  vector_of_twisted e ts = same_components (polynomials p n) (polynomials_laws p n) m (vector_of p n m (twisted_terms p e ts)) (map (frobenius_twist p n e) (vector_of p n m ts))
-      (length_vector p n m (twisted_terms p e ts)) (length-map (vector_of p n m ts) (frobenius_twist p n e) ∙ length_vector p n m ts)
-      (λ i h. component_of_vector p n m (twisted_terms p e ts) i h ∙ ap (polynomial_of p n) (twisted_in e (suc i) ts) ∙ sym (twist_of_terms p n e (terms_in (suc i) ts))
+  vector_of_twisted e ts = same_components (polynomials p n) (polynomials_laws p n) m (vector_of p n m (twisted (prime_value p ^ e) ts)) (map (frobenius_twist p n e) (vector_of p n m ts))
+      (length_vector p n m (twisted (prime_value p ^ e) ts)) (length-map (vector_of p n m ts) (frobenius_twist p n e) ∙ length_vector p n m ts)
+      (λ i h. component_of_vector p n m (twisted (prime_value p ^ e) ts) i h ∙ ap (polynomial_of p n) (twisted_in e (suc i) ts) ∙ sym (twist_of_terms p n e (terms_in (suc i) ts))
       ∙ sym (component_map p n (frobenius_twist p n e) (twist_zero_is p n e) (vector_of p n m ts) i ∙ ap (frobenius_twist p n e) (component_of_vector p n m ts i h)))

@@ -6,7 +6,7 @@ use native.Mathlib.Decide.{dec_lt}
 use Rattle.fm_mono.specs.Orders.{monomial_cmp}
 use Rattle.fm_mono.specs.declared.order.Order.{Order}
 use Rattle.fm_mono.proofs.OrderLaws.{monomial_cmp_flip}
-use Rattle.fm_groebner.specs.Terms.{place_cmp}
+use Rattle.fm_term.specs.Places.{place_cmp}
 use Rattle.fm_groebner.proofs.Monomials.{Monomial}
 use Rattle.fm_groebner.proofs.Places.{PlaceLess}
 use Rattle.fm_groebner.proofs.Ordered.{ordered}

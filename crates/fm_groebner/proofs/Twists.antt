@@ -24,7 +24,7 @@ use Rattle.fm_algebra.specs.Gf.{gf, gf_is_zero}
 use Rattle.fm_algebra.specs.Poly.{coeff}
 use Rattle.fm_algebra.proofs.Twist.{coeff_twist, twisted_at}
 use Rattle.fm_algebra.proofs.TwistWords.{twist_at_multiple, slice_coefficient}
-use Rattle.fm_groebner.specs.Terms.{place_cmp}
+use Rattle.fm_term.specs.Places.{place_cmp}
 use Rattle.fm_groebner.specs.Graphs.{graph, IsGraphBasis}
 use Rattle.fm_groebner.proofs.GraphMatrices.{mapped_graph, mapped_rows, mapped_cols}
 use Rattle.fm_groebner.specs.Bases.{vector_component, IsHead, generators, HeadDivides, IsGroebnerBasis}

@@ -1,4 +1,5 @@
--- Heads and Gröbner bases of submodules of free modules (Adams and Loustaunau, An Introduction to Gröbner Bases, 1994, sections 3.5 and 3.6).
+-- Heads and Gröbner bases of submodules of free modules
+-- (Adams and Loustaunau, An Introduction to Gröbner Bases, 1994, sections 3.5 and 3.6).
 use Rattle.std.specs.Prelude.{◌≡◌, ℕ, zero, suc, List, Contains}
 use Rattle.std.specs.declared.cmp.Ordering.TheVariants.{Greater}
 use Rattle.fm_gfp.specs.declared.prime.Prime.{Prime}
@@ -7,7 +8,7 @@ use Rattle.fm_mono.specs.declared.order.Order.{Order}
 use Rattle.fm_algebra.specs.Matrix.{component}
 use Rattle.fm_algebra.specs.Polynomials.{Polynomial, polynomials, coefficient, polynomial_zero}
 use Rattle.fm_algebra.specs.PolynomialMatrices.{PolynomialMatrix, InImage}
-use Rattle.fm_groebner.specs.Terms.{place_cmp}
+use Rattle.fm_term.specs.Places.{place_cmp}
 
 module _ (p : Prime) (n : ℕ) where
   -- the component i of a vector, counted from 1; zero where there is none
@@ -36,4 +37,5 @@ module _ (p : Prime) (n : ℕ) where
   -- and the head of each of its nonzero vectors is divisible by the head of a member
   pub record IsGroebnerBasis (m : ℕ) (o : Order) (members gens : List (List (Polynomial p n))) : Type 0 where
     pub inside : (g : List (Polynomial p n)) → Contains members g → InImage p n (generators m gens) g
-    pub heads : (v : List (Polynomial p n)) (i : ℕ) (a : List ℕ) → InImage p n (generators m gens) v → IsHead o v i a → HeadDivides o members i a
+    pub heads : (v : List (Polynomial p n)) (i : ℕ) (a : List ℕ) → InImage p n (generators m gens) v → IsHead o v i a
+        → HeadDivides o members i a

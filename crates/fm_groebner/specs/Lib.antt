@@ -1,5 +1,5 @@
-pub mod Terms
 pub mod Bases
 pub mod Logs
 pub mod Graphs
+pub mod Syzygies
 pub mod Examples

@@ -3,4 +3,5 @@ pub mod bases;
 pub mod examples;
 pub mod graphs;
 pub mod logs;
+pub mod shown;
 pub mod terms;

@@ -21,10 +21,10 @@ use Rattle.fm_algebra.proofs.Images.{columns_within}
 use Rattle.fm_limit.specs.Resolution.{rank_before, d_below}
 use Rattle.fm_limit.specs.ResolvedIdeal.{ResolvedIdeal, matrix_at, columns_of, rank, differential, row, InIdeal, IsResolutionOf, IsFrobeniusLiftOf, IsResolved, IsLiftOfIdentityOf}
 use Rattle.fm_limit.specs.Classes.{matrices, read_at, complex_of, theta_of, lambda_of, degree_in, length_in}
-use Rattle.fm_limit.specs.Facts.{ColumnsInImage, PresentsExt, IsChain, DegreeFacts}
+use Rattle.fm_limit.specs.Facts.{ColumnsInImage, PresentsExt, IsChain}
 use Rattle.fm_limit.proofs.Resolutions.{IsResolution, IsFrobeniusLift, IsLiftOfIdentity}
 use Rattle.fm_limit.proofs.Chains.{Chain, rising_to, continued, last_repeats}
-use Rattle.fm_limit.proofs.Moves.{Moves, Ext, Computed, relations_begin}
+use Rattle.fm_limit.proofs.Moves.{Moves, Ext}
 use Rattle.fm_limit.proofs.Homotopy.{lift_moves}
 use Rattle.fm_limit.proofs.Reading.{one_entry, generates_kernel_read, same_read}
 use Rattle.fm_limit.proofs.MatrixWords.{shape_columns, product_read, twist_read, twist_fits, transpose_read, transpose_fits, unit_read, row_fits, kernel_from, preimage_from, columns_from}
@@ -176,26 +176,3 @@ module _ (p : Prime) (n : ℕ) where
     pub repeat_read : Chain (matrices p n) g (read (polynomials p n) g g U) (λ s. columns_of p n Ks (min s t)) (λ s. member g Ks (min s t))
     repeat_read =
         chain_read g shape (shorter C) begins (last_repeats matrices_laws (member g Ks t) (member g Ks (suc t)) (step_read g shape C t (omega arith)) same_members)
-
-  -- ---- the facts of a degree
-  module _ {i : ℕ} {I : ResolvedIdeal p n} {Z U : PolynomialMatrix p n} {Ks : List (PolynomialMatrix p n)} {t : ℕ} (X : DegreeFacts p n i I Z U Ks t) where
-    pub facts_begin : InImage (matrices p n) (each (polynomials p n) (frobenius_twist p n 1) (member (length Z.columns) Ks zero)) (mul (polynomials p n) (read (polynomials p n) (length Z.columns) (length Z.columns) U) (member (length Z.columns) Ks zero))
-    facts_begin = relations_begin matrices_laws matrices_flat (moves_read X.resolved) (ext_read X.resolved X.ext)
-
-    pub facts_ext : Ext (matrices p n) (degree_in p n i I) (length Z.columns) (columns_of p n Ks (min zero t)) (read (polynomials p n) (length_in p n i I) (length Z.columns) Z) (member (length Z.columns) Ks (min zero t)) (read (polynomials p n) (length Z.columns) (length Z.columns) U)
-    facts_ext =
-        let q : zero ≡ min zero t = omega arith in
-        subst (λ x. Ext (matrices p n) (degree_in p n i I) (length Z.columns) (columns_of p n Ks x) (read (polynomials p n) (length_in p n i I) (length Z.columns) Z) (member (length Z.columns) Ks x) (read (polynomials p n) (length Z.columns) (length Z.columns) U)) q (ext_read X.resolved X.ext)
-
-    abbrev pub facts_read : Computed (matrices p n) (degree_in p n i I)
-    facts_read = record {
-      g = length Z.columns;
-      sizes = λ s. columns_of p n Ks (min s t);
-      Z = read (polynomials p n) (length_in p n i I) (length Z.columns) Z;
-      U = read (polynomials p n) (length Z.columns) (length Z.columns) U;
-      K = λ s. member (length Z.columns) Ks (min s t);
-      chain = repeat_read (length Z.columns) (X.ext).morphism_fits X.chain X.repeats facts_begin;
-      ext = facts_ext;
-      t = t;
-      same = last_same (length Z.columns) Ks t;
-    }

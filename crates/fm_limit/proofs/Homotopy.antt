@@ -3,8 +3,8 @@ use Rattle.std.proofs.Common.{ℕ, zero, suc, ◌*◌, ◌^◌, ◌<◌, ◌≤�
 use Rattle.std.proofs.Math.Nat.{pow-suc, pow-zero, one-mul}
 use Rattle.fm_algebra.specs.Matrices.{Matrices, IsMatrices}
 use Rattle.fm_algebra.specs.Image.{InImage, InKernel, pow}
-use Rattle.fm_algebra.proofs.Generation.{GeneratesKernel, Flat, IsPower}
-use Rattle.fm_algebra.proofs.Images.{image_trans, image_columns, within_columns, within_twist, twist_more, mul_nil, nil_mul, twist_nil, flip_nil, mul_neg, sub_add, add_sub, kernel_product, kernel_matrix, kernel_twist}
+use Rattle.fm_algebra.proofs.Generation.{GeneratesKernel, IsPower}
+use Rattle.fm_algebra.proofs.Images.{image_trans, image_columns, within_columns, twist_more, mul_nil, nil_mul, twist_nil, flip_nil, mul_neg, sub_add, add_sub, kernel_product, kernel_matrix}
 use Rattle.fm_limit.specs.Resolution.{rank_of, rank_before, d_below, Complex}
 use Rattle.fm_limit.proofs.Resolutions.{IsResolution, IsFrobeniusLift, IsLiftOfIdentity}
 use Rattle.fm_limit.specs.DirectSystem.{degree, IsCocycle, IsCoboundary, move}
@@ -88,14 +88,6 @@ module _ {M : Matrices} (L : IsMatrices M) where
   below_twist e C zero = sym (twist_nil L e zero 1)
   below_twist e C (suc j) = refl
 
-  -- the twist of a resolution resolves the Frobenius power
-  pub twisted_resolution : Flat M → (e : ℕ) {g : ℕ} {I : Mat 1 g} {i : ℕ} {P : Complex M} → IsResolution M g I i P
-      → IsResolution M g (twist e I) i (twisted_of M e P)
-  twisted_resolution F e {g} {I} {i} {P} r = record {
-    generators = λ v. (within_twist L e (P.d zero) I (λ u h. (r.generators u).0 h) v, within_twist L e I (P.d zero) (λ u h. (r.generators u).1 h) v);
-    exact = λ j b. kernel_twist L F e (P.d (suc j)) (P.d j) (r.exact j b);
-  }
-
   -- I^[p] lies in I
   pub row_power : (p : ℕ) → zero < p → IsPower M p → {n : ℕ} (A : Mat 1 n) → InImage M A (twist 1 A)
   unfolding pow
@@ -146,6 +138,35 @@ module _ {M : Matrices} (L : IsMatrices M) where
   lower_square zero P Q l a = (nil zero zero, nil_mul L zero (l zero) ∙ sym (nil_mul L zero (nil zero 1)))
   lower_square (suc j) P Q l a = (l j, a.square j (omega arith))
 
+  -- P is a complex and Q is exact
+  module _ (i : ℕ) (P Q : Complex M) (x : IsComplex M i P) (y : (j : ℕ) → j < i → GeneratesKernel M (Q.d (suc j)) (Q.d j)) where
+    pub complexes_differ : (t u : (j : ℕ) → Mat (rank_of Q.cols j) (rank_of P.cols j)) → IsLiftOfIdentity M i P Q t → IsLiftOfIdentity M i P Q u
+        → (e : ℕ) (z : Mat (rank_of Q.cols i) 1) → InKernel M (flip (twist e (Q.d i))) z
+        → InImage M (flip (twist e (d_below M P i))) (flip (twist e (t i)) ⊛ z ⊕ neg (flip (twist e (u i)) ⊛ z))
+    complexes_differ t u a b e z c =
+        let i_le : i ≤ i = omega arith in
+        let H = homotopic i P Q x y t u (a.first ∙ sym b.first) a.square b.square i i_le in
+        differ L (t i) (u i) (Q.d i) H.h H.k (d_below M P i) H.holds e z c
+
+    pub complex_maps : (s : (j : ℕ) → Mat (rank_of Q.cols j) (rank_of Q.cols j)) (t : (j : ℕ) → Mat (rank_of P.cols j) (rank_of P.cols j)) (l : (j : ℕ) → Mat (rank_of Q.cols j) (rank_of P.cols j))
+        → IsFrobeniusLift M i Q s → IsFrobeniusLift M i P t → IsLiftOfIdentity M i P Q l → Maps M (degree M i Q s) (degree M i P t) (l i)
+    complex_maps s t l a b c =
+        let i_le : i ≤ i = omega arith in
+        let f : (j : ℕ) → Mat (rank_of Q.cols j) (rank_of P.cols j) = λ j. s j ⊛ twist 1 (l j) in
+        let k : (j : ℕ) → Mat (rank_of Q.cols j) (rank_of P.cols j) = λ j. l j ⊛ t j in
+        let first : f zero ≡ k zero = (ap (λ y. y ⊛ twist 1 (l zero)) a.first ∙ unit_left (twist 1 (l zero)) ∙ ap (λ y. twist 1 y) c.first ∙ twist_unit 1 1) ∙ sym (ap (λ y. y ⊛ t zero) c.first ∙ unit_left (t zero) ∙ b.first) in
+        let fs : (j : ℕ) → j < i → Q.d j ⊛ f (suc j) ≡ f j ⊛ twist 1 (P.d j) = λ j v.
+        sym (assoc (Q.d j) (s (suc j)) (twist 1 (l (suc j)))) ∙ ap (λ y. y ⊛ twist 1 (l (suc j))) (a.square j v) ∙ assoc (s j) (twist 1 (Q.d j)) (twist 1 (l (suc j))) ∙ ap (λ y. s j ⊛ y) (sym (twist_mul 1 (Q.d j) (l (suc j))) ∙ ap (λ y. twist 1 y) (c.square j v) ∙ twist_mul 1 (l j) (P.d j)) ∙ sym (assoc (s j) (twist 1 (l j)) (twist 1 (P.d j))) in
+        let ks : (j : ℕ) → j < i → Q.d j ⊛ k (suc j) ≡ k j ⊛ twist 1 (P.d j) = λ j v.
+        sym (assoc (Q.d j) (l (suc j)) (t (suc j))) ∙ ap (λ y. y ⊛ t (suc j)) (c.square j v) ∙ assoc (l j) (P.d j) (t (suc j)) ∙ ap (λ y. l j ⊛ y) (b.square j v) ∙ sym (assoc (l j) (t j) (twist 1 (P.d j))) in
+        let H = homotopic i (twisted_of M 1 P) Q (twisted_complex 1 i P x) y f k first fs ks i i_le in
+        record {
+          lower = lower_square i P Q l c;
+          h = H.h;
+          k = H.k;
+          homotopy = subst (λ y. s i ⊛ twist 1 (l i) ≡ l i ⊛ t i ⊕ (Q.d i ⊛ H.h ⊕ H.k ⊛ y)) (below_twist 1 P i) H.holds;
+        }
+
   module _ {g h : ℕ} {I : Mat 1 g} {J : Mat 1 h} where
     -- lambda_i goes with d_(i+1), where I lies in J
     pub upper_square : (i : ℕ) (P Q : Complex M) (l : (j : ℕ) → Mat (rank_of Q.cols j) (rank_of P.cols j)) → IsResolution M g I i P → IsResolution M h J i Q
@@ -166,27 +187,9 @@ module _ {M : Matrices} (L : IsMatrices M) where
       pub identities_differ : (t u : (j : ℕ) → Mat (rank_of Q.cols j) (rank_of P.cols j)) → IsLiftOfIdentity M i P Q t → IsLiftOfIdentity M i P Q u
           → (e : ℕ) (z : Mat (rank_of Q.cols i) 1) → InKernel M (flip (twist e (Q.d i))) z
           → InImage M (flip (twist e (d_below M P i))) (flip (twist e (t i)) ⊛ z ⊕ neg (flip (twist e (u i)) ⊛ z))
-      identities_differ t u a b e z c =
-          let i_le : i ≤ i = omega arith in
-          let H = homotopic i P Q (resolution_complex x) y.exact t u (a.first ∙ sym b.first) a.square b.square i i_le in
-          differ L (t i) (u i) (Q.d i) H.h H.k (d_below M P i) H.holds e z c
+      identities_differ = complexes_differ i P Q (resolution_complex x) y.exact
 
       -- what an induced map rests on, from two resolutions with their lifts and a lift of the identity
       pub lift_maps : (s : (j : ℕ) → Mat (rank_of Q.cols j) (rank_of Q.cols j)) (t : (j : ℕ) → Mat (rank_of P.cols j) (rank_of P.cols j)) (l : (j : ℕ) → Mat (rank_of Q.cols j) (rank_of P.cols j))
           → IsFrobeniusLift M i Q s → IsFrobeniusLift M i P t → IsLiftOfIdentity M i P Q l → Maps M (degree M i Q s) (degree M i P t) (l i)
-      lift_maps s t l a b c =
-          let i_le : i ≤ i = omega arith in
-          let f : (j : ℕ) → Mat (rank_of Q.cols j) (rank_of P.cols j) = λ j. s j ⊛ twist 1 (l j) in
-          let k : (j : ℕ) → Mat (rank_of Q.cols j) (rank_of P.cols j) = λ j. l j ⊛ t j in
-          let first : f zero ≡ k zero = (ap (λ y. y ⊛ twist 1 (l zero)) a.first ∙ unit_left (twist 1 (l zero)) ∙ ap (λ y. twist 1 y) c.first ∙ twist_unit 1 1) ∙ sym (ap (λ y. y ⊛ t zero) c.first ∙ unit_left (t zero) ∙ b.first) in
-          let fs : (j : ℕ) → j < i → Q.d j ⊛ f (suc j) ≡ f j ⊛ twist 1 (P.d j) = λ j v.
-          sym (assoc (Q.d j) (s (suc j)) (twist 1 (l (suc j)))) ∙ ap (λ y. y ⊛ twist 1 (l (suc j))) (a.square j v) ∙ assoc (s j) (twist 1 (Q.d j)) (twist 1 (l (suc j))) ∙ ap (λ y. s j ⊛ y) (sym (twist_mul 1 (Q.d j) (l (suc j))) ∙ ap (λ y. twist 1 y) (c.square j v) ∙ twist_mul 1 (l j) (P.d j)) ∙ sym (assoc (s j) (twist 1 (l j)) (twist 1 (P.d j))) in
-          let ks : (j : ℕ) → j < i → Q.d j ⊛ k (suc j) ≡ k j ⊛ twist 1 (P.d j) = λ j v.
-          sym (assoc (Q.d j) (l (suc j)) (t (suc j))) ∙ ap (λ y. y ⊛ t (suc j)) (c.square j v) ∙ assoc (l j) (P.d j) (t (suc j)) ∙ ap (λ y. l j ⊛ y) (b.square j v) ∙ sym (assoc (l j) (t j) (twist 1 (P.d j))) in
-          let H = homotopic i (twisted_of M 1 P) Q (twisted_complex 1 i P (resolution_complex x)) y.exact f k first fs ks i i_le in
-          record {
-            lower = lower_square i P Q l c;
-            h = H.h;
-            k = H.k;
-            homotopy = subst (λ y. s i ⊛ twist 1 (l i) ≡ l i ⊛ t i ⊕ (Q.d i ⊛ H.h ⊕ H.k ⊛ y)) (below_twist 1 P i) H.holds;
-          }
+      lift_maps = complex_maps i P Q (resolution_complex x) y.exact

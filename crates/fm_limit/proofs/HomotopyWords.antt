@@ -4,13 +4,13 @@ use Rattle.fm_gfp.specs.declared.prime.Prime.{Prime}
 use Rattle.fm_algebra.specs.Families.{add, neg}
 use Rattle.fm_algebra.specs.Polynomials.{Polynomial, polynomials}
 use Rattle.fm_algebra.specs.PolynomialMatrices.{PolynomialMatrix}
-use Rattle.fm_limit.specs.DirectSystem.{IsCoboundary, move, moved}
+use Rattle.fm_limit.specs.System as system
+use Rattle.fm_limit.specs.DirectSystem.{IsCoboundary, move}
 use Rattle.fm_limit.specs.Limit.{mapped}
 use Rattle.fm_limit.specs.ResolvedIdeal.{ResolvedIdeal, IsResolutionOf, IsFrobeniusLiftOf, IsResolved, IsLiftOfIdentityOf}
 use Rattle.fm_limit.specs.Classes.{matrices, complex_of, theta_of, lambda_of, degree_in, vector_in, moved_once, image_of, IsClass, IsCoboundaryAfter, AreCohomologous}
-use Rattle.fm_limit.proofs.Moves.{coboundary_moves}
+use Rattle.fm_limit.proofs.Moves.{coboundary_moves, killed_more}
 use Rattle.fm_limit.proofs.Maps.{Maps, mapped_move, mapped_coboundary}
-use Rattle.fm_limit.proofs.Vanishing.{killed_more}
 use Rattle.fm_limit.proofs.Homotopy.{lifts_differ, identities_differ, lift_maps}
 use Rattle.fm_limit.proofs.FactsRead.{matrices_laws, resolution_read, frobenius_read, identity_read, moves_read}
 use Rattle.fm_limit.proofs.StageWords.{moved_read}
@@ -57,7 +57,7 @@ module _ (p : Prime) (n : ℕ) where
 
       -- a coboundary is mapped to a coboundary
       pub mapped_coboundary_words : (e : ℕ) (z : List (Polynomial p n)) → IsCoboundaryAfter p n i J 0 e z → IsCoboundaryAfter p n i I 0 e (image_of p n i ls e z)
-      unfolding IsCoboundaryAfter moved
+      unfolding IsCoboundaryAfter system.moved
       mapped_coboundary_words e z h =
           let h' : IsCoboundary (matrices p n) (degree_in p n i J) e (vector_in p n i J z) = subst (λ x. IsCoboundary (matrices p n) (degree_in p n i J) x (vector_in p n i J z)) (add-zero e) h in
           let m = mapped_coboundary (matrices_laws p n) maps e (vector_in p n i J z) h' in
@@ -66,7 +66,7 @@ module _ (p : Prime) (n : ℕ) where
   module _ {i : ℕ} {I : ResolvedIdeal p n} (r : IsResolved p n i I) where
     -- a coboundary is moved to a coboundary
     pub moved_coboundary_words : (e : ℕ) (z : List (Polynomial p n)) → IsCoboundaryAfter p n i I 0 e z → IsCoboundaryAfter p n i I 0 (suc e) (moved_once p n i I e z)
-    unfolding IsCoboundaryAfter moved
+    unfolding IsCoboundaryAfter system.moved
     moved_coboundary_words e z h =
         let h' : IsCoboundary (matrices p n) (degree_in p n i I) e (vector_in p n i I z) = subst (λ x. IsCoboundary (matrices p n) (degree_in p n i I) x (vector_in p n i I z)) (add-zero e) h in
         let m = coboundary_moves (matrices_laws p n) (moves_read p n r) e (vector_in p n i I z) h' in

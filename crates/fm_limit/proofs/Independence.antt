@@ -7,6 +7,7 @@ use Rattle.fm_algebra.specs.Image.{InImage}
 use Rattle.fm_algebra.proofs.Images.{image_add, image_nil, image_neg, image_trans, within_columns, nil_add, neg_unique, sub_add, mul_neg, kernel_product, kernel_matrix, mul_nil}
 use Rattle.fm_limit.specs.Resolution.{rank_of, Complex}
 use Rattle.fm_limit.proofs.Resolutions.{IsResolution, IsLiftOfIdentity}
+use Rattle.fm_limit.specs.System as system
 use Rattle.fm_limit.specs.DirectSystem.{Degree, IsCocycle, IsCoboundary, move, moved, IsKilledBy, IsZeroInLimit}
 use Rattle.fm_limit.specs.Limit.{mapped}
 use Rattle.fm_limit.proofs.Moves.{Moves, cocycle_moves, coboundaries_moves, moved_add, moved_neg}
@@ -46,7 +47,7 @@ module _ {M : Matrices} (L : IsMatrices M) where
     -- s moves and mapping, in either order, differ by a coboundary
     pub mapped_moves : (s e : ℕ) (z : Mat S.mid 1) → IsCocycle M S e z
         → IsCoboundary M T (e + s) (mapped M S T lambda (e + s) (moved M S s e z) ⊕ neg (moved M T s e (mapped M S T lambda e z)))
-    unfolding moved
+    unfolding system.moved
     mapped_moves zero e z c =
         rw add-zero (subst (λ y. InImage M (flip (twist e T.below)) y) (sym (add_neg (mapped M S T lambda e z))) (image_nil L 1 (flip (twist e T.below))))
     mapped_moves (suc s) e z c =

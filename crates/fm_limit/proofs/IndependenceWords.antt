@@ -12,12 +12,13 @@ use Rattle.fm_algebra.proofs.Concrete.{polynomials_laws}
 use Rattle.fm_algebra.proofs.FamilyPowers.{single}
 use Rattle.fm_algebra.proofs.Images.{within_columns}
 use Rattle.fm_algebra.proofs.Tables.{vector_apply, length-apply, list_of, length-list_of, vector_list_of, vector_injective}
-use Rattle.fm_algebra.proofs.ListImages.{through, list_image}
-use Rattle.fm_limit.specs.DirectSystem.{IsCocycle, IsCoboundary, IsKilledBy, IsZeroInLimit, moved}
+use Rattle.fm_algebra.proofs.ListImages.{through, list_image, turned}
+use Rattle.fm_limit.specs.System as system
+use Rattle.fm_limit.specs.DirectSystem.{IsCocycle, IsCoboundary, IsKilledBy, IsZeroInLimit}
 use Rattle.fm_limit.specs.Limit.{mapped}
 use Rattle.fm_limit.specs.ResolvedIdeal.{ResolvedIdeal, matrix_at, row, InIdeal, LiesIn, IsResolved, IsLiftOfIdentityOf, rank}
 use Rattle.fm_limit.specs.Classes.{matrices, complex_of, theta_of, lambda_of, degree_in, length_in, vector_in, image_of, IsClass, IsCoboundaryAfter, IsZeroClass, IsSameClass, IsZeroLimit, VanishesAfterInverting, AnnihilatesClasses, IsEnoughMoves, IsSupportIdealOf, IsMapOfClasses, IsZeroMap, IsOneToOneMap, IsOntoMap, IsOntoAfter}
-use Rattle.fm_limit.specs.Verdicts.{IsLeast, zero_limit, inverting, support, Holds, HoldsOfOnto, induced_map}
+use Rattle.fm_limit.specs.Verdicts.{IsLeast, zero_limit, inverting, support, Holds, HoldsOfOnto, induced_map, zero_class}
 use Rattle.fm_limit.proofs.FactsRead.{matrices_laws, matrices_power, resolution_read, frobenius_read, identity_read}
 use Rattle.fm_limit.proofs.Resolved.{Resolved, Inside, carried_class, carried_killed, carried_zero, carried_onto, same_zero, same_vanishing, same_annihilators, same_enough, same_support, same_map_classes, same_map_zero, same_map_one, same_map_onto, same_onto_by}
 use Rattle.fm_limit.proofs.MatrixWords.{dual_fits, dual_read, row_fits, unit_read}
@@ -37,18 +38,22 @@ module _ (p : Prime) (n : ℕ) where
   }
 
   -- membership of an element of the ring
-  member_read : (fs : List (Polynomial p n)) (f : Polynomial p n) → InIdeal p n fs f ↔ image.InImage (matrices p n) (read (polynomials p n) 1 (length fs) (row p n fs)) (element (polynomials p n) f)
+  pub member_read : (fs : List (Polynomial p n)) (f : Polynomial p n) → InIdeal p n fs f ↔ image.InImage (matrices p n) (read (polynomials p n) 1 (length fs) (row p n fs)) (element (polynomials p n) f)
   unfolding InIdeal InImage HasShape component
   member_read fs f =
       let s = row_fits p n fs in
       subst (λ x. InIdeal p n fs f ↔ image.InImage (matrices p n) (read (polynomials p n) 1 (length fs) (row p n fs)) x) (single (polynomials_laws p n) (frobenius_twist p n) (vector (polynomials p n) 1 (f ∷ [])) (element (polynomials p n) f) refl) (list_image (polynomials p n) (frobenius_twist p n) 1 (length fs) (row p n fs) (f ∷ []) s.0 s.1 refl)
 
-  pub inside_read : {i : ℕ} {I J : ResolvedIdeal p n} (r : IsResolved p n i I) (s : IsResolved p n i J) → LiesIn p n I.generators J.generators → Inside (resolved_read r) (resolved_read s)
-  inside_read {i} {I} {J} r s w =
-      within_columns (matrices_laws p n) (read (polynomials p n) 1 (length J.generators) (row p n J.generators)) (read (polynomials p n) 1 (length I.generators) (row p n I.generators)) (λ v h.
+  -- an ideal lies in another, by rows of generators
+  pub lies_read : (fs gs : List (Polynomial p n)) → LiesIn p n fs gs → image.InImage (matrices p n) (read (polynomials p n) 1 (length gs) (row p n gs)) (read (polynomials p n) 1 (length fs) (row p n fs))
+  lies_read fs gs w =
+      within_columns (matrices_laws p n) (read (polynomials p n) 1 (length gs) (row p n gs)) (read (polynomials p n) 1 (length fs) (row p n fs)) (λ v h.
       let f : Polynomial p n = v zero only zero only in
       let q : element (polynomials p n) f ≡ v = single (polynomials_laws p n) (frobenius_twist p n) (element (polynomials p n) f) v refl in
-      subst (λ x. image.InImage (matrices p n) (read (polynomials p n) 1 (length J.generators) (row p n J.generators)) x) q ((member_read J.generators f).0 (w f ((member_read I.generators f).1 (subst (λ x. image.InImage (matrices p n) (read (polynomials p n) 1 (length I.generators) (row p n I.generators)) x) (sym q) h)))))
+      subst (λ x. image.InImage (matrices p n) (read (polynomials p n) 1 (length gs) (row p n gs)) x) q ((member_read gs f).0 (w f ((member_read fs f).1 (subst (λ x. image.InImage (matrices p n) (read (polynomials p n) 1 (length fs) (row p n fs)) x) (sym q) h)))))
+
+  pub inside_read : {i : ℕ} {I J : ResolvedIdeal p n} (r : IsResolved p n i I) (s : IsResolved p n i J) → LiesIn p n I.generators J.generators → Inside (resolved_read r) (resolved_read s)
+  inside_read {i} {I} {J} r s w = lies_read I.generators J.generators w
 
   -- ---- the map that a lift of the identity induces
   module _ {i : ℕ} {I J : ResolvedIdeal p n} {ls : List (PolynomialMatrix p n)} (r : IsResolved p n i I) (s : IsResolved p n i J) (k : IsLiftOfIdentityOf p n i I.differentials J.differentials ls) where
@@ -154,9 +159,23 @@ module _ (p : Prime) (n : ℕ) where
       carried_zero_words e z c =
           subst (λ x. IsZeroClass p n i J e z ↔ IsZeroInLimit (matrices p n) (degree_in p n i I) e x) (sym (image_read r s k e z)) (carried_zero (matrices_laws p n) (prime_value p) (prime_positive p) (matrices_power p n) (resolved_read r) (resolved_read s) (lambda_of p n I.differentials J.differentials ls) other.0 (identity_read p n r.resolution s.resolution k) other.1 (inside_read r s ij) e (vector_in p n i J z) c.cocycle)
 
+      -- so the verdict on a class is that on what it is carried to
+      pub carried_verdict_words : (e : ℕ) (z : List (Polynomial p n)) → IsClass p n i J e z → (stage : Option ℕ) → Holds p n (zero_class i J e z stage) ↔ Holds p n (zero_class i I e (image_of p n i ls e z) stage)
+      carried_verdict_words e z c (Some stage) =
+          let P : ℕ → Type 0 = λ m. IsCoboundaryAfter p n i J m e z in
+          let Q : ℕ → Type 0 = λ m. IsCoboundaryAfter p n i I m e (image_of p n i ls e z) in
+          let f : (m : ℕ) → P m ↔ Q m = λ m. carried_killed_words m e z c in (
+            λ h. (carried_class_words r s k ij e z c, (h.1.0, h.1.1, least_words P Q f h.1.0 h.1.2)),
+            λ h. (c, (h.1.0, h.1.1, least_words Q P (λ m. turned (f m)) h.1.0 h.1.2)),
+          )
+      carried_verdict_words e z c None = (
+        λ h. (carried_class_words r s k ij e z c, λ q. h.1 ((carried_zero_words e z c).1 q)),
+        λ h. (c, λ q. h.1 ((carried_zero_words e z c).0 q)),
+      )
+
       -- each class is the same in the limit as one that is carried over, at its own stage
       pub carried_onto_words : (e : ℕ) (z : List (Polynomial p n)) → IsClass p n i I e z → (z' : List (Polynomial p n)) × IsClass p n i J e z' × IsSameClass p n i I e z e (image_of p n i ls e z')
-      unfolding IsSameClass moved
+      unfolding IsSameClass system.moved
       carried_onto_words e z c =
           let b = length_in p n i J in
           let h = carried_onto (matrices_laws p n) (prime_value p) (prime_positive p) (matrices_power p n) (resolved_read r) (resolved_read s) (lambda_of p n I.differentials J.differentials ls) other.0 (identity_read p n r.resolution s.resolution k) other.1 (inside_read s r ji) e (vector_in p n i I z) c.cocycle in

@@ -1,27 +1,26 @@
 -- From the finite facts of an inclusion of ideals to the induced map
-use Rattle.std.proofs.Common.{ℕ, zero, suc, ◌+◌, ◌<◌, ◌≤◌, ◌≡◌, ◌∙◌, ◌↔◌, min, sym, ap, subst, arith, List, length}
+use Rattle.std.proofs.Common.{ℕ, suc, ◌≤◌, ◌≡◌, ◌∙◌, ◌↔◌, sym, ap, subst, arith, List, length}
 use Rattle.fm_gfp.specs.declared.prime.Prime.{Prime}
-use Rattle.fm_algebra.specs.Families.{mul, flip, beside, each, read}
-use Rattle.fm_algebra.specs.Image.{InImage}
-use Rattle.fm_algebra.proofs.Generation.{Everything, SameImage, Generates}
-use Rattle.fm_algebra.specs.Polynomials.{polynomials, frobenius_twist}
+use Rattle.fm_algebra.specs.Families.{mul, flip, read}
+use Rattle.fm_algebra.specs.Polynomials.{polynomials, Polynomial}
 use Rattle.fm_algebra.specs.PolynomialMatrices as words
 use Rattle.fm_algebra.specs.PolynomialMatrices.{PolynomialMatrix, HasShape, matrix_beside, matrix_transpose}
-use Rattle.fm_algebra.proofs.ListImages.{through, turned}
-use Rattle.fm_limit.specs.ResolvedIdeal.{ResolvedIdeal, matrix_at, columns_of}
-use Rattle.fm_limit.specs.Classes.{matrices, degree_in, length_in, theta_of, lambda_of, lambda_in, complex_of, IsMapOfClasses, vector_in, IsZeroMap, IsOneToOneMap, IsOntoMap, IsOntoAfter}
-use Rattle.fm_limit.specs.Facts.{ColumnsInImage, IsEverything, DegreeFacts, MapFacts, JoinFacts}
-use Rattle.fm_limit.proofs.Chains.{Chain, rising_to, last_repeats, last_everything}
-use Rattle.fm_limit.proofs.Maps.{Maps}
+use Rattle.fm_limit.specs.ResolvedIdeal.{ResolvedIdeal, matrix_at, columns_of, IsResolved}
+use Rattle.fm_limit.specs.Classes.{matrices, degree_in, length_in, theta_of, lambda_of, lambda_in, complex_of, IsMapOfClasses, vector_in, IsZeroMap, IsOneToOneMap, IsOntoMap}
+use Rattle.fm_limit.specs.Facts.{ColumnsInImage, IsEverything, DegreeFacts, MapFacts, JoinFacts, PresentsExt}
+use Rattle.fm_limit.specs.System.{MapMatrices, MapCommutes}
+use Rattle.fm_limit.proofs.Maps.{Maps, maps_commute, square_twist}
 use Rattle.fm_limit.proofs.Homotopy.{lift_maps}
-use Rattle.fm_limit.proofs.Induced.{J, mapped_class, zero_map, one_map, one_columns, begins_same, onto_by, onto_map}
-use Rattle.fm_limit.proofs.FactsRead.{matrices_laws, matrices_flat, resolution_read, frobenius_read, identity_read, member, member_fits, step_read, shorter, same_members, chain_read, last_same, moves_read, facts_read}
-use Rattle.fm_limit.proofs.MatrixWords.{product_read, transpose_read, transpose_fits, beside_read, beside_fits, preimage_from, columns_from, same_from, everything_read}
-use Rattle.fm_limit.specs.DirectSystem.{IsCocycle}
+use Rattle.fm_limit.proofs.FactsRead.{matrices_laws, resolution_read, frobenius_read, identity_read}
+use Rattle.fm_limit.proofs.MatrixWords.{product_read, transpose_read, transpose_fits}
+use Rattle.fm_limit.specs.DirectSystem.{degree_system, IsCocycle}
+use Rattle.fm_limit.specs.SystemFacts.{SystemMapFacts}
+use Rattle.fm_limit.proofs.Waist.{degree_facts, system_in}
+use Rattle.fm_limit.proofs.SystemMaps as general
 use Rattle.fm_limit.proofs.IndependenceWords.{image_read, image_length_words}
 
 module _ (p : Prime) (n : ℕ) where
-  module _ {i : ℕ} {source target : ResolvedIdeal p n} {ZS US ZT UT Phi : PolynomialMatrix p n} {KS KT ls : List (PolynomialMatrix p n)} {s t : ℕ} (X : DegreeFacts p n i source ZS US KS s) (Y : DegreeFacts p n i target ZT UT KT t) (F : MapFacts p n i source target ls ZS ZT Phi) where
+  module _ {i : ℕ} {source target : ResolvedIdeal p n} {ZS NS US ZT NT UT Phi : PolynomialMatrix p n} {ls : List (PolynomialMatrix p n)} (S : IsResolved p n i source) (T : IsResolved p n i target) (X : PresentsExt p n i source ZS NS US) (Y : PresentsExt p n i target ZT NT UT) (F : MapFacts p n i source target ls ZS ZT Phi) where
     abbrev gS : ℕ
     gS = length ZS.columns
 
@@ -36,9 +35,9 @@ module _ (p : Prime) (n : ℕ) where
 
     pub maps_read : Maps (matrices p n) (degree_in p n i source) (degree_in p n i target) lambda
     maps_read =
-        let x = (Y.resolved).resolution in
-        let y = (X.resolved).resolution in
-        lift_maps (matrices_laws p n) i (complex_of p n target.differentials) (complex_of p n source.differentials) (resolution_read p n x) (resolution_read p n y) (theta_of p n source.differentials source.lift) (theta_of p n target.differentials target.lift) (lambda_of p n target.differentials source.differentials ls) (frobenius_read p n y (X.resolved).frobenius) (frobenius_read p n x (Y.resolved).frobenius) (identity_read p n x y F.identity)
+        let x = T.resolution in
+        let y = S.resolution in
+        lift_maps (matrices_laws p n) i (complex_of p n target.differentials) (complex_of p n source.differentials) (resolution_read p n x) (resolution_read p n y) (theta_of p n source.differentials source.lift) (theta_of p n target.differentials target.lift) (lambda_of p n target.differentials source.differentials ls) (frobenius_read p n y S.frobenius) (frobenius_read p n x T.frobenius) (identity_read p n x y F.identity)
 
     pub square_read : mul (polynomials p n) (flip (polynomials p n) lambda) (read (polynomials p n) (length_in p n i source) gS ZS) ≡ mul (polynomials p n) (read (polynomials p n) (length_in p n i target) gT ZT) phi
     square_read =
@@ -47,127 +46,57 @@ module _ (p : Prime) (n : ℕ) where
         let l = matrix_at p n ls i in
         let lf = (F.identity).fits i (let c = (F.identity).count in omega arith) in
         ap (λ M. mul (polynomials p n) M (read (polynomials p n) a gS ZS)) (sym (transpose_read p n a b l lf))
-        ∙ sym (product_read p n b a gS (matrix_transpose p n l) ZS (transpose_fits p n a b l lf) (X.ext).cocycles_fit)
+        ∙ sym (product_read p n b a gS (matrix_transpose p n l) ZS (transpose_fits p n a b l lf) X.cocycles_fit)
         ∙ ap (read (polynomials p n) b gS) F.square
-        ∙ product_read p n b gT gS ZT Phi (Y.ext).cocycles_fit F.fits
+        ∙ product_read p n b gT gS ZT Phi Y.cocycles_fit F.fits
 
-    min_source : min s s ≡ s
-    min_source = omega arith
+    abbrev pub along : MapMatrices (matrices p n) (degree_system (matrices p n) (degree_in p n i source)) (degree_system (matrices p n) (degree_in p n i target))
+    along e = (matrices p n).flip ((matrices p n).twist e lambda)
 
-    min_target : min t t ≡ t
-    min_target = omega arith
+    pub commutes : MapCommutes (matrices p n) (degree_system (matrices p n) (degree_in p n i source)) (degree_system (matrices p n) (degree_in p n i target)) along
+    commutes = maps_commute (matrices_laws p n) maps_read
 
-    source_fits : HasShape p n gS (columns_of p n KS s) (matrix_at p n KS s)
-    source_fits = member_fits p n gS (X.ext).morphism_fits X.chain s (omega arith)
+    pub squares : (e : ℕ) → (matrices p n).◌⊛◌ (along e) ((matrices p n).twist e (read (polynomials p n) (length_in p n i source) gS ZS)) ≡ (matrices p n).◌⊛◌ ((matrices p n).twist e (read (polynomials p n) (length_in p n i target) gT ZT)) ((matrices p n).twist e phi)
+    squares = square_twist (matrices_laws p n) lambda (read (polynomials p n) (length_in p n i source) gS ZS) (read (polynomials p n) (length_in p n i target) gT ZT) phi square_read
 
-    pub target_fits : (r : ℕ) → r ≤ suc t → HasShape p n gT (columns_of p n KT r) (matrix_at p n KT r)
-    target_fits r b = member_fits p n gT (Y.ext).morphism_fits Y.chain r b
+    -- the facts of an inclusion are facts of a map of systems
+    pub inclusion_is : SystemMapFacts p n (system_in p n i source) (system_in p n i target) along ZS ZT Phi
+    inclusion_is = record { fits = F.fits; commutes = commutes; squares = squares }
+
+  -- ---- with the facts of both sides
+  module _ {i : ℕ} {source target : ResolvedIdeal p n} {ZS US ZT UT Phi : PolynomialMatrix p n} {KS KT ls : List (PolynomialMatrix p n)} {s t : ℕ} (X : DegreeFacts p n i source ZS US KS s) (Y : DegreeFacts p n i target ZT UT KT t) (F : MapFacts p n i source target ls ZS ZT Phi) where
+    pub inclusion_facts : SystemMapFacts p n (system_in p n i source) (system_in p n i target) (along X.resolved Y.resolved X.ext Y.ext F) ZS ZT Phi
+    inclusion_facts = inclusion_is X.resolved Y.resolved X.ext Y.ext F
+
+    pub target_fits : (r : ℕ) → r ≤ suc t → HasShape p n (length ZT.columns) (columns_of p n KT r) (matrix_at p n KT r)
+    target_fits = general.target_fits p n (degree_facts p n X) (degree_facts p n Y) inclusion_facts
 
     -- classes are mapped to classes
     pub classes_fact : IsMapOfClasses p n i source target ls
     classes_fact e z c = record {
       fits = image_length_words p n (Y.resolved) (X.resolved) F.identity e z;
-      cocycle = subst (λ x. IsCocycle (matrices p n) (degree_in p n i target) e x) (sym (image_read p n (Y.resolved) (X.resolved) F.identity e z)) (mapped_class (matrices_laws p n) (matrices_flat p n) lambda (moves_read p n X.resolved) (moves_read p n Y.resolved) maps_read (facts_read p n X) (facts_read p n Y) phi square_read e (vector_in p n i source z) c.cocycle);
+      cocycle = subst (λ x. IsCocycle (matrices p n) (degree_in p n i target) e x) (sym (image_read p n (Y.resolved) (X.resolved) F.identity e z)) (general.classes_fact p n (degree_facts p n X) (degree_facts p n Y) inclusion_facts e (vector_in p n i source z) c.cocycle);
     }
 
     -- the induced map is zero exactly if the columns of Phi lie in the stable kernel of the target
     pub zero_map_fact : ColumnsInImage p n (matrix_at p n KT t) Phi ↔ IsZeroMap p n i source target ls
     unfolding IsZeroMap
-    zero_map_fact =
-        let h = zero_map (matrices_laws p n) (matrices_flat p n) lambda (moves_read p n X.resolved) (moves_read p n Y.resolved) maps_read (facts_read p n X) (facts_read p n Y) phi square_read in
-        through (columns_from p n gT (columns_of p n KT t) gS (matrix_at p n KT t) Phi (target_fits t (omega arith)) F.fits) (turned (subst (λ x. IsZeroMap p n i source target ls ↔ InImage (matrices p n) (member p n gT KT x) phi) min_target h))
+    zero_map_fact = general.zero_map_fact p n (degree_facts p n X) (degree_facts p n Y) inclusion_facts
 
     -- it is one to one exactly if a matrix that generates all w with Phi * w in the stable kernel of the target has its columns
     -- in that of the source
-    pub one_map_fact : (C : PolynomialMatrix p n) → HasShape p n gS (length C.columns) C → words.GeneratesPreimage p n C Phi (matrix_at p n KT t)
+    pub one_map_fact : (C : PolynomialMatrix p n) → HasShape p n (length ZS.columns) (length C.columns) C → words.GeneratesPreimage p n C Phi (matrix_at p n KT t)
         → ColumnsInImage p n (matrix_at p n KS s) C ↔ IsOneToOneMap p n i source target ls
     unfolding IsOneToOneMap
-    one_map_fact C c g =
-        let M = matrices p n in
-        let k = length C.columns in
-        let a = one_map (matrices_laws p n) (matrices_flat p n) lambda (moves_read p n X.resolved) (moves_read p n Y.resolved) maps_read (facts_read p n X) (facts_read p n Y) phi square_read in
-        let gen : Generates M (read (polynomials p n) gS k C) phi (member p n gT KT t) = preimage_from p n gT gS (columns_of p n KT t) k C Phi (matrix_at p n KT t) F.fits (target_fits t (omega arith)) c g in
-        let gen' : Generates M (read (polynomials p n) gS k C) phi (member p n gT KT (min t t)) = subst (λ x. Generates M (read (polynomials p n) gS k C) phi (member p n gT KT x)) (sym min_target) gen in
-        let b = one_columns (matrices_laws p n) (matrices_flat p n) lambda (moves_read p n X.resolved) (moves_read p n Y.resolved) maps_read (facts_read p n X) (facts_read p n Y) phi square_read (read (polynomials p n) gS k C) gen' in
-        through (columns_from p n gS (columns_of p n KS s) k (matrix_at p n KS s) C source_fits c) (turned (subst (λ x. IsOneToOneMap p n i source target ls ↔ InImage M (member p n gS KS x) (read (polynomials p n) gS k C)) min_source (through a b)))
+    one_map_fact = general.one_map_fact p n (degree_facts p n X) (degree_facts p n Y) inclusion_facts
 
-    -- ---- onto
-    module _ {Ws : List (PolynomialMatrix p n)} {r : ℕ} (W : JoinFacts p n (matrix_at p n KT 0) Phi UT Ws r) where
-      join_same : SameImage (matrices p n) (member p n gT Ws zero) (J (matrices_laws p n) (matrices_flat p n) lambda (moves_read p n X.resolved) (moves_read p n Y.resolved) maps_read (facts_read p n X) (facts_read p n Y) phi square_read)
-      join_same =
-          let k = columns_of p n KT zero in
-          let N = matrix_at p n KT zero in
-          let nf = target_fits zero (omega arith) in
-          let w0 = member_fits p n gT (Y.ext).morphism_fits W.chain zero (omega arith) in
-          let q : zero ≡ min zero t = omega arith in
-          let h : SameImage (matrices p n) (member p n gT Ws zero) (beside (polynomials p n) {m = gT} {n = k} {k = gS} (member p n gT KT zero) phi) = subst (λ M. SameImage (matrices p n) (member p n gT Ws zero) M) (beside_read p n gT k gS N Phi nf F.fits) (same_from p n gT (columns_of p n Ws zero) (k + gS) (matrix_at p n Ws zero) (matrix_beside p n N Phi) w0 (beside_fits p n gT k gS N Phi nf F.fits) W.begins) in
-          subst (λ x. SameImage (matrices p n) (member p n gT Ws zero) (beside (polynomials p n) {m = gT} {n = columns_of p n KT x} {k = gS} (member p n gT KT x) phi)) q h
+    -- it is one to one exactly if all that Phi sends into the stable kernel of the target lies in that of the source
+    pub one_exactly_fact : ((w : List (Polynomial p n)) → words.InPreimage p n Phi (matrix_at p n KT t) w → words.InImage p n (matrix_at p n KS s) w) ↔ IsOneToOneMap p n i source target ls
+    unfolding IsOneToOneMap
+    one_exactly_fact = general.one_exactly_fact p n (degree_facts p n X) (degree_facts p n Y) inclusion_facts
 
-      join_begins : InImage (matrices p n) (each (polynomials p n) (frobenius_twist p n 1) (member p n gT Ws zero)) (mul (polynomials p n) (read (polynomials p n) gT gT UT) (member p n gT Ws zero))
-      join_begins =
-          begins_same (matrices_laws p n) (matrices_flat p n) lambda (moves_read p n X.resolved) (moves_read p n Y.resolved) maps_read (facts_read p n X) (facts_read p n Y) phi square_read (member p n gT Ws zero) join_same
-
-      join_fits : (k : ℕ) → k ≤ r → HasShape p n gT (columns_of p n Ws k) (matrix_at p n Ws k)
-      join_fits k b = member_fits p n gT (Y.ext).morphism_fits W.chain k b
-
-      join_start : SameImage (matrices p n) (member p n gT Ws (min zero r)) (J (matrices_laws p n) (matrices_flat p n) lambda (moves_read p n X.resolved) (moves_read p n Y.resolved) maps_read (facts_read p n X) (facts_read p n Y) phi square_read)
-      join_start =
-          let q : zero ≡ min zero r = omega arith in
-          subst (λ x. SameImage (matrices p n) (member p n gT Ws x) (J (matrices_laws p n) (matrices_flat p n) lambda (moves_read p n X.resolved) (moves_read p n Y.resolved) maps_read (facts_read p n X) (facts_read p n Y) phi square_read)) q join_same
-
-      -- the members of the chain rise
-      join_rises : (k m : ℕ) → k + m ≤ r → IsEverything p n (matrix_at p n Ws k) → IsEverything p n (matrix_at p n Ws (k + m))
-      join_rises k zero b h = let q : k ≡ k + zero = omega arith in subst (λ x. IsEverything p n (matrix_at p n Ws x)) q h
-      join_rises k (suc m) b h =
-          let q : suc (k + m) ≡ k + suc m = omega arith in
-          let c : k + m < r = omega arith in
-          let fk = join_fits (k + m) (omega arith) in
-          let fs = join_fits (suc (k + m)) (omega arith) in
-          let before : Everything (matrices p n) (member p n gT Ws (k + m)) = (everything_read p n gT (columns_of p n Ws (k + m)) (matrix_at p n Ws (k + m)) fk).0 (join_rises k m (omega arith) h) in
-          let after : Everything (matrices p n) (member p n gT Ws (suc (k + m))) = λ v. rising_to (matrices_laws p n) (k + m) join_begins (λ j d. step_read p n gT (Y.ext).morphism_fits W.chain j (omega arith)) (k + m) (omega arith) v (before v) in
-          subst (λ x. IsEverything p n (matrix_at p n Ws x)) q ((everything_read p n gT (columns_of p n Ws (suc (k + m))) (matrix_at p n Ws (suc (k + m))) fs).1 after)
-
-      module _ (last : Generates (matrices p n) (member p n gT Ws r) (read (polynomials p n) gT gT UT) (each (polynomials p n) (frobenius_twist p n 1) (member p n gT Ws r))) where
-        join_chain : Chain (matrices p n) gT (read (polynomials p n) gT gT UT) (λ k. columns_of p n Ws (min k r)) (λ k. member p n gT Ws (min k r))
-        join_chain = chain_read p n gT (Y.ext).morphism_fits W.chain join_begins last
-
-        -- k moves take all classes of stage 0 to images plus coboundaries exactly if W_k is everything
-        after_exactly : (k : ℕ) → k ≤ r → IsEverything p n (matrix_at p n Ws k) ↔ IsOntoAfter p n i source target ls k
-        unfolding IsOntoAfter
-        after_exactly k b =
-            let q : min k r ≡ k = omega arith in
-            let h = onto_by (matrices_laws p n) (matrices_flat p n) lambda (moves_read p n X.resolved) (moves_read p n Y.resolved) maps_read (facts_read p n X) (facts_read p n Y) phi square_read join_chain join_start k in
-            through (everything_read p n gT (columns_of p n Ws k) (matrix_at p n Ws k) (join_fits k b)) (turned (subst (λ x. IsOntoAfter p n i source target ls k ↔ Everything (matrices p n) (member p n gT Ws x)) q h))
-
-        -- the induced map is onto exactly if the constant member is everything
-        onto_exactly : IsEverything p n (matrix_at p n Ws r) ↔ IsOntoMap p n i source target ls
-        unfolding IsOntoMap
-        onto_exactly =
-            let q : min r r ≡ r = omega arith in
-            let h = onto_map (matrices_laws p n) (matrices_flat p n) lambda (moves_read p n X.resolved) (moves_read p n Y.resolved) maps_read (facts_read p n X) (facts_read p n Y) phi square_read join_chain join_start r (last_same p n gT Ws r) in
-            through (everything_read p n gT (columns_of p n Ws r) (matrix_at p n Ws r) (join_fits r (omega arith))) (turned (subst (λ x. IsOntoMap p n i source target ls ↔ Everything (matrices p n) (member p n gT Ws x)) q h))
-
-      -- where W_r is everything, the map is onto, and the least such r is the least number of moves
-      pub onto_yes_fact : IsEverything p n (matrix_at p n Ws r) → IsOntoMap p n i source target ls × ((k : ℕ) → k ≤ r → IsEverything p n (matrix_at p n Ws k) ↔ IsOntoAfter p n i source target ls k)
-      onto_yes_fact e =
-          let f : Everything (matrices p n) (member p n gT Ws r) = (everything_read p n gT (columns_of p n Ws r) (matrix_at p n Ws r) (join_fits r (omega arith))).0 e in
-          let last = last_everything (matrices_laws p n) (member p n gT Ws r) f in
-          ((onto_exactly last).0 e, after_exactly last)
-
-      pub everything_rises : (k m : ℕ) → k + m ≤ r → IsEverything p n (matrix_at p n Ws k) → IsEverything p n (matrix_at p n Ws (k + m))
-      everything_rises = join_rises
-
-    -- where the chain repeats, the map is onto exactly if the constant member is everything; the same of each number of moves
+    -- where the chain repeats, the map is onto exactly if the constant member is everything
     module _ {Ws : List (PolynomialMatrix p n)} {r : ℕ} (W : JoinFacts p n (matrix_at p n KT 0) Phi UT Ws (suc r)) (repeats : ColumnsInImage p n (matrix_at p n Ws r) (matrix_at p n Ws (suc r))) where
-      short : JoinFacts p n (matrix_at p n KT 0) Phi UT Ws r
-      short = record { begins = W.begins; chain = shorter p n W.chain }
-
-      last_step : Generates (matrices p n) (member p n gT Ws r) (read (polynomials p n) gT gT UT) (each (polynomials p n) (frobenius_twist p n 1) (member p n gT Ws r))
-      last_step =
-          last_repeats (matrices_laws p n) (member p n gT Ws r) (member p n gT Ws (suc r)) (step_read p n gT (Y.ext).morphism_fits W.chain r (omega arith)) (same_members p n gT (Y.ext).morphism_fits W.chain repeats (join_begins short))
-
       pub onto_repeat_fact : IsEverything p n (matrix_at p n Ws r) ↔ IsOntoMap p n i source target ls
-      onto_repeat_fact = onto_exactly short last_step
-
-      pub onto_after_fact : (k : ℕ) → k ≤ r → IsEverything p n (matrix_at p n Ws k) ↔ IsOntoAfter p n i source target ls k
-      onto_after_fact = after_exactly short last_step
+      unfolding IsOntoMap
+      onto_repeat_fact = general.onto_repeat_fact p n (degree_facts p n X) (degree_facts p n Y) inclusion_facts W repeats

@@ -3,7 +3,8 @@ use Rattle.std.proofs.Common.{ℕ, suc, ◌≡◌, ◌∙◌, sym, ap, subst}
 use Rattle.fm_algebra.specs.Matrices.{Matrices, IsMatrices}
 use Rattle.fm_algebra.specs.Image.{InImage, InKernel}
 use Rattle.fm_algebra.proofs.Images.{twist_more, mul_nil, nil_add, add_sub}
-use Rattle.fm_limit.specs.DirectSystem.{Degree, IsCocycle, IsCoboundary, move}
+use Rattle.fm_limit.specs.DirectSystem.{Degree, degree_system, IsCocycle, IsCoboundary, move}
+use Rattle.fm_limit.specs.System.{MapCommutes}
 use Rattle.fm_limit.specs.Limit.{mapped}
 use Rattle.fm_limit.proofs.Moves.{dual, dual_square}
 
@@ -21,7 +22,7 @@ module _ (M : Matrices) where
 
 module _ {M : Matrices} (L : IsMatrices M) where
   open M use {Mat, ◌⊛◌, ◌⊕◌, neg, nil, flip, twist}
-  open L use {assoc, dist_right, flip_add, twist_add}
+  open L use {assoc, dist_right, flip_add, twist_add, twist_mul, twist_flip}
 
   infixl 70 ◌⊛◌
   infixl 60 ◌⊕◌
@@ -60,3 +61,13 @@ module _ {M : Matrices} (L : IsMatrices M) where
         let v : Mat T.mid 1 = neg (move M T e (mapped M S T lambda e z)) in
         subst (λ y. InImage M (flip y) (mapped M S T lambda (suc e) (move M S e z) ⊕ v)) (twist_more L e T.below)
         (subst (λ y. InImage M (flip (twist e (twist 1 T.below))) (y ⊕ v)) p (subst (λ y. InImage M (flip (twist e (twist 1 T.below))) (flip (twist e (S.theta ⊛ twist 1 lambda)) ⊛ z ⊕ neg y)) q d))
+
+    -- the same, of the systems
+    pub maps_commute : MapCommutes M (degree_system M S) (degree_system M T) (λ e. flip (twist e lambda))
+    maps_commute = mapped_move
+
+  -- in coordinates at every stage
+  pub square_twist : {m n g k : ℕ} (lambda : Mat m n) (Z : Mat m g) (Y : Mat n k) (Phi : Mat k g) → flip lambda ⊛ Z ≡ Y ⊛ Phi
+      → (e : ℕ) → flip (twist e lambda) ⊛ twist e Z ≡ twist e Y ⊛ twist e Phi
+  square_twist lambda Z Y Phi q e =
+      ap (λ y. y ⊛ twist e Z) (sym (twist_flip e lambda)) ∙ sym (twist_mul e (flip lambda) Z) ∙ ap (λ y. twist e y) q ∙ twist_mul e Y Phi

@@ -19,7 +19,7 @@ use Rattle.fm_algebra.proofs.Tables.{read_product, product_shaped, read_transpos
 use Rattle.fm_limit.specs.ResolvedIdeal.{row}
 use Rattle.fm_limit.specs.Classes.{matrices}
 use Rattle.fm_limit.specs.Facts.{ColumnsInImage, IsEverything}
-use Rattle.fm_limit.proofs.Reading.{generates_kernel_read, generates_read, same_read, columns_read}
+use Rattle.fm_limit.proofs.Reading.{generates_kernel_read, generates_read, inside_read, same_read, columns_read}
 
 module _ (p : Prime) (n : ℕ) where
   -- ---- membership
@@ -142,6 +142,12 @@ module _ (p : Prime) (n : ℕ) where
       → Generates (matrices p n) (read (polynomials p n) a l C) (read (polynomials p n) m a A) (read (polynomials p n) m k B)
   unfolding HasShape InImage InPreimage
   preimage_from m a k l C A B s t u g = generates_read (polynomials p n) (frobenius_twist p n) m a k l C A B s.0 s.1 t.0 t.1 u.0 u.1 g
+
+  pub inside_from : (m a k l : ℕ) (C A B : PolynomialMatrix p n) → HasShape p n m a A → HasShape p n m k B → HasShape p n a l C
+      → ((w : List (Polynomial p n)) → InPreimage p n A B w → InImage p n C w)
+      ↔ ((w : (matrices p n).Mat a 1) → image.InImage (matrices p n) (read (polynomials p n) m k B) (mul (polynomials p n) (read (polynomials p n) m a A) w) → image.InImage (matrices p n) (read (polynomials p n) a l C) w)
+  unfolding HasShape InImage InPreimage
+  inside_from m a k l C A B s t u = inside_read (polynomials p n) (frobenius_twist p n) m a k l C A B s.0 s.1 t.0 t.1 u.0 u.1
 
   pub columns_from : (m a k : ℕ) (A B : PolynomialMatrix p n) → HasShape p n m a A → HasShape p n m k B
       → ColumnsInImage p n A B ↔ image.InImage (matrices p n) (read (polynomials p n) m a A) (read (polynomials p n) m k B)

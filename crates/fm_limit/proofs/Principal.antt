@@ -21,6 +21,7 @@ use Rattle.fm_algebra.proofs.FamilyPowers.{single}
 use Rattle.fm_algebra.proofs.Images.{image_nil, mul_nil}
 use Rattle.fm_algebra.proofs.Tables.{read_injective}
 use Rattle.fm_limit.specs.Resolution.{d_below}
+use Rattle.fm_limit.specs.System as system
 use Rattle.fm_limit.specs.DirectSystem.{Degree, IsCoboundary, move, moved, IsKilledBy}
 use Rattle.fm_limit.specs.ResolvedIdeal.{matrix_at, rank, row, InIdeal, IsResolved}
 use Rattle.fm_limit.specs.Classes.{matrices, IsClass, IsCoboundaryAfter, IsZeroClass}
@@ -192,7 +193,7 @@ module _ (p : Prime) (n : ℕ) where
     -- s moves from stage e, in polynomials
     moved_element : (s e : ℕ) (z : Polynomial p n)
         → (y : Polynomial p n) × (moved (matrices p n) D s e (element (polynomials p n) z) ≡ element (polynomials p n) y) × (polynomial_product p n (frobenius_twist p n e f) y ≡ polynomial_product p n (frobenius_twist p n (e + s) f) z)
-    unfolding moved
+    unfolding system.moved
     moved_element zero e z = (z, refl, ap (λ k. polynomial_product p n (frobenius_twist p n k f) z) (sym (add-zero e)))
     moved_element (suc s) e z =
         let t : Polynomial p n = frobenius_twist p n e cofactor in

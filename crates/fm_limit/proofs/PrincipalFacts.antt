@@ -67,7 +67,7 @@ module _ (p : Prime) (n : ℕ) where
       )
 
   -- what holds of lists of one entry
-  of_one : (P Q : List (Polynomial p n) → Type 0) → ((w : List (Polynomial p n)) → P w → length w ≡ 1) → ((w : List (Polynomial p n)) → Q w → length w ≡ 1)
+  pub of_one : (P Q : List (Polynomial p n) → Type 0) → ((w : List (Polynomial p n)) → P w → length w ≡ 1) → ((w : List (Polynomial p n)) → Q w → length w ≡ 1)
       → ((z : Polynomial p n) → P (z ∷ []) ↔ Q (z ∷ [])) → (w : List (Polynomial p n)) → P w ↔ Q w
   of_one P Q a b f [] = ((λ h. absurd (let l : 0 ≡ 1 = a [] h in omega arith)), (λ h. absurd (let l : 0 ≡ 1 = b [] h in omega arith)))
   of_one P Q a b f (z ∷ []) = f z
@@ -77,12 +77,12 @@ module _ (p : Prime) (n : ℕ) where
   image_one_length : (f : Polynomial p n) (w : List (Polynomial p n)) → InImage p n (one_entry p n f) w → length w ≡ 1
   image_one_length f w h = image_length p n 1 1 (one_entry p n f) w (one_fits p n f) h
 
-  preimage_length : (f : Polynomial p n) (B : PolynomialMatrix p n) (w : List (Polynomial p n)) → InPreimage p n (one_entry p n f) B w → length w ≡ 1
+  pub preimage_length : (f : Polynomial p n) (B : PolynomialMatrix p n) (w : List (Polynomial p n)) → InPreimage p n (one_entry p n f) B w → length w ≡ 1
   unfolding InPreimage
   preimage_length f B w h = h.0
 
   -- f * z is in the image of B
-  preimage_one : (f z : Polynomial p n) (B : PolynomialMatrix p n) → InPreimage p n (one_entry p n f) B (z ∷ []) ↔ InImage p n B (polynomial_product p n f z ∷ [])
+  pub preimage_one : (f z : Polynomial p n) (B : PolynomialMatrix p n) → InPreimage p n (one_entry p n f) B (z ∷ []) ↔ InImage p n B (polynomial_product p n f z ∷ [])
   unfolding InPreimage InImage vector_product
   preimage_one f z B =
       subst (λ v. InPreimage p n (one_entry p n f) B (z ∷ []) ↔ InImage p n B v) (apply_one f z) ((λ h. h.1), (λ h. (refl, h)))
@@ -93,11 +93,11 @@ module _ (p : Prime) (n : ℕ) where
   preimage_generates f g h m =
       of_one (InPreimage p n (one_entry p n f) (one_entry p n h)) (InImage p n (one_entry p n g)) (preimage_length f (one_entry p n h)) (image_one_length g) (λ z. through (preimage_one f z (one_entry p n h)) (through (image_one h (polynomial_product p n f z)) (through (m z) (turned (image_one g z)))))
 
-  product_one_left : (z : Polynomial p n) → polynomial_product p n (polynomial_one p n) z ≡ z
+  pub product_one_left : (z : Polynomial p n) → polynomial_product p n (polynomial_one p n) z ≡ z
   unfolding polynomial_product polynomial_one
   product_one_left z = (polynomials_laws p n).one_mul z
 
-  product_one_right : (z : Polynomial p n) → polynomial_product p n z (polynomial_one p n) ≡ z
+  pub product_one_right : (z : Polynomial p n) → polynomial_product p n z (polynomial_one p n) ≡ z
   unfolding polynomial_product polynomial_one
   product_one_right z = mul_one (polynomials_laws p n) z
 
@@ -114,7 +114,7 @@ module _ (p : Prime) (n : ℕ) where
     abbrev g : Polynomial p n
     g = polynomial_power p n (prime_value p - 1) f
 
-    all_cocycles : GeneratesKernel p n (one_entry p n (polynomial_one p n)) (matrix_transpose p n (no_columns p n))
+    pub all_cocycles : GeneratesKernel p n (one_entry p n (polynomial_one p n)) (matrix_transpose p n (no_columns p n))
     all_cocycles =
         let s = transpose_fits p n 1 0 (no_columns p n) (no_fits p n) in
         of_one (InKernel p n (matrix_transpose p n (no_columns p n))) (InImage p n (one_entry p n (polynomial_one p n))) (λ w h. kernel_length p n 0 1 (matrix_transpose p n (no_columns p n)) w s h) (image_one_length (polynomial_one p n)) (λ z. (
@@ -183,7 +183,7 @@ module _ (p : Prime) (n : ℕ) where
     principal_verdict answer h = zero_verdict p n principal_facts (λ s b. absurd (omega arith)) answer (through h (turned unit_exactly))
 
 -- x is no unit of GF(2)[x]
-no_unit : (y : Polynomial Two 1) → ¬ (polynomial_product Two 1 x y ≡ polynomial_one Two 1)
+pub no_unit : (y : Polynomial Two 1) → ¬ (polynomial_product Two 1 x y ≡ polynomial_one Two 1)
 unfolding over_splits over_pairs
 no_unit y h =
     let a : coefficient Two 1 (polynomial_one Two 1) (0 ∷ []) ≡ 1 = coefficient_one Two 1 in

@@ -33,6 +33,18 @@ module _ (R : Ring) (twist : ℕ → R.Carrier → R.Carrier) where
       let at : InListPreimage R A B w ↔ InListImage R B (apply R A w) = (λ h. h.1, λ h. (e ∙ sym q, h)) in
       through (turned (list_image R twist n l C w r s e)) (through (turned (g w)) (through at (list_preimage R twist m n k A B w p q u v))))
 
+  -- what A sends into im B lies in im C, of lists and of families
+  pub inside_read : (m n k l : ℕ) (C A B : Matrix R) → A.rows ≡ m → cols R A ≡ n → B.rows ≡ m → cols R B ≡ k → C.rows ≡ n → cols R C ≡ l
+      → ((w : List R.Carrier) → InListPreimage R A B w → InListImage R C w)
+      ↔ ((w : Mat R n 1) → InImage (families R twist) (read R m k B) (mul R (read R m n A) w) → InImage (families R twist) (read R n l C) w)
+  inside_read m n k l C A B p q u v r s = (
+    λ f. by_list n (λ x. InImage (families R twist) (read R m k B) (mul R (read R m n A) x) → InImage (families R twist) (read R n l C) x) (λ w e h.
+        (list_image R twist n l C w r s e).0 (f w (e ∙ sym q, (list_preimage R twist m n k A B w p q u v).1 h))),
+    λ f w h.
+        let e : length w ≡ n = h.0 ∙ q in
+        (list_image R twist n l C w r s e).1 (f (vector R n w) ((list_preimage R twist m n k A B w p q u v).0 h.1)),
+  )
+
   -- the image of a vector as one of a list
   pub image_read : (m n : ℕ) (A : Matrix R) → A.rows ≡ m → cols R A ≡ n → (P : Mat R m 1 → Type 0)
       → ((v : List R.Carrier) → length v ≡ m → InListImage R A v → P (vector R m v)) → (x : Mat R m 1) → InImage (families R twist) (read R m n A) x → P x

@@ -6,6 +6,7 @@ use Rattle.fm_algebra.proofs.Generation.{IsPower}
 use Rattle.fm_algebra.proofs.Images.{sub_add, image_add, image_neg, nil_mul}
 use Rattle.fm_limit.specs.Resolution.{rank_of, d_below, Complex}
 use Rattle.fm_limit.proofs.Resolutions.{IsResolution, IsFrobeniusLift, IsLiftOfIdentity}
+use Rattle.fm_limit.specs.System as system
 use Rattle.fm_limit.specs.DirectSystem.{degree, Degree, IsCocycle, IsCoboundary, moved, IsKilledBy, IsZeroInLimit}
 use Rattle.fm_limit.specs.Limit.{mapped, LimitIsZero, VanishesInverting, Annihilates, IsEnough, IsSupportIdeal, InducedMapIsZero, InducedMapIsOneToOne, InducedMapIsOnto, IsOntoBy}
 use Rattle.fm_limit.proofs.Moves.{Moves, coboundary_cocycle, dual}
@@ -248,7 +249,7 @@ module _ {M : Matrices} (L : IsMatrices M) (p : ℕ) (positive : zero < p) (powe
 
     -- the number of moves after which all classes of stage 0 are images is the same
     pub same_onto_by : (s : ℕ) → IsOntoBy M (degree_of B) (degree_of A) (k i) s → IsOntoBy M (degree_of B2) (degree_of A2) (k2 i) s
-    unfolding moved
+    unfolding system.moved
     same_onto_by s f z c =
         let y : Mat (rank_of (A.P).cols i) 1 = carried A A2 up_back.0 zero z in
         let r = f y (carried_class A A2 up_back.0 up_back.1 aa zero z c) in

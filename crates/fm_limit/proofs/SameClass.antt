@@ -6,6 +6,7 @@ use Rattle.fm_algebra.specs.Polynomials.{Polynomial, polynomials, polynomial_zer
 use Rattle.fm_algebra.specs.PolynomialMatrices.{PolynomialMatrix}
 use Rattle.fm_algebra.proofs.Images.{image_nil, image_add, mul_nil, add_cancel}
 use Rattle.fm_algebra.proofs.Tables.{vector_zero}
+use Rattle.fm_limit.specs.System as system
 use Rattle.fm_limit.specs.DirectSystem.{Degree, IsCoboundary, move, moved, IsKilledBy, IsZeroInLimit, IsSameInLimit}
 use Rattle.fm_limit.specs.Limit.{mapped}
 use Rattle.fm_limit.specs.ResolvedIdeal.{ResolvedIdeal, IsResolved, IsLiftOfIdentityOf}
@@ -61,11 +62,11 @@ module _ {M : Matrices} (L : IsMatrices M) where
 
   -- a class and what it is moved to are the same
   pub same_moved : (D : Degree M) (e : ℕ) (x : Mat D.mid 1) → IsSameInLimit M D e x (suc e) (move M D e x)
-  unfolding moved
+  unfolding system.moved
   same_moved D e x = let q : e + 1 ≡ suc e + zero = omega arith in (1, zero, q, nothing D (e + 1) (move M D e x))
 
   moved_nil : (D : Degree M) (s e : ℕ) → moved M D s e (nil D.mid 1) ≡ nil D.mid 1
-  unfolding moved
+  unfolding system.moved
   moved_nil D zero e = refl
   moved_nil D (suc s) e = ap (moved M D s (suc e)) (mul_nil L (flip (twist e D.theta))) ∙ moved_nil D s (suc e)
 

@@ -11,7 +11,8 @@ use Rattle.fm_algebra.proofs.PolynomialWords.{one_differs}
 use Rattle.fm_algebra.proofs.FamilyPowers.{single}
 use Rattle.fm_algebra.proofs.Images.{image_nil, mul_nil}
 use Rattle.fm_limit.specs.Resolution.{d_below}
-use Rattle.fm_limit.specs.DirectSystem.{IsCocycle, IsCoboundary, move, moved, IsKilledBy, IsZeroInLimit}
+use Rattle.fm_limit.specs.System as system
+use Rattle.fm_limit.specs.DirectSystem.{IsCocycle, IsCoboundary, moved, IsKilledBy, IsZeroInLimit}
 use Rattle.fm_limit.specs.ResolvedIdeal.{ResolvedIdeal, matrix_at, columns_of, rank, row, InIdeal, IsResolved}
 use Rattle.fm_limit.specs.Classes.{matrices, complex_of, theta_of, degree_in, length_in, IsZeroLimit, VanishesAfterInverting}
 use Rattle.fm_limit.specs.SmallIdeals.{in_degree_zero}
@@ -19,7 +20,8 @@ use Rattle.fm_limit.proofs.Homotopy.{coboundary_first}
 use Rattle.fm_limit.proofs.Independence.{flip_unit}
 use Rattle.fm_limit.proofs.Vanishing.{pow_one}
 use Rattle.fm_limit.proofs.FactsRead.{matrices_laws}
-use Rattle.fm_limit.proofs.MatrixWords.{unit_fits, shape_columns, unit_read, row_fits, row_read}
+use Rattle.fm_limit.proofs.MatrixWords.{unit_fits, shape_columns, row_fits, row_read}
+use Rattle.fm_limit.proofs.DegreeZero.{moved_nothing}
 
 module _ (p : Prime) (n : ℕ) where
   row_columns : (fs : List (Polynomial p n)) → length (row p n fs).columns ≡ length fs
@@ -48,23 +50,11 @@ module _ (p : Prime) (n : ℕ) where
     abbrev M0 : ResolvedIdeal p n
     M0 = in_degree_zero p n fs
 
-    theta_first : theta_of p n (row p n fs ∷ []) (matrix_unit p n 1 ∷ []) zero ≡ unit (polynomials p n) 1
-    unfolding matrix_at
-    theta_first = unit_read p n 1
-
-    -- in degree 0 moves change nothing
-    moved_nothing : (s e : ℕ) (z : Mat (polynomials p n) 1 1) → moved (matrices p n) (degree_in p n 0 M0) s e z ≡ z
-    unfolding moved in_degree_zero
-    moved_nothing zero e z = refl
-    moved_nothing (suc s) e z =
-        let q : move (matrices p n) (degree_in p n 0 M0) e z ≡ z = ap (λ t. mul (polynomials p n) (flip (polynomials p n) {m = 1} {n = 1} (each (polynomials p n) (frobenius_twist p n e) {m = 1} {n = 1} t)) z) theta_first ∙ ap (λ t. mul (polynomials p n) (flip (polynomials p n) {m = 1} {n = 1} t) z) ((matrices_laws p n).twist_unit e 1) ∙ ap (λ t. mul (polynomials p n) t z) (flip_unit (matrices_laws p n) 1) ∙ (matrices_laws p n).unit_left z in
-        ap (moved (matrices p n) (degree_in p n 0 M0) s (suc e)) q ∙ moved_nothing s (suc e) z
-
     -- so a class of degree 0 is zero in the limit only if it is 0
     killed_is_nil : (s e : ℕ) (z : Mat (polynomials p n) 1 1) → IsKilledBy (matrices p n) (degree_in p n 0 M0) s e z → z ≡ nil (polynomials p n) 1 1
-    unfolding in_degree_zero
+    unfolding in_degree_zero matrix_at
     killed_is_nil s e z h =
-        sym (moved_nothing s e z) ∙ (coboundary_first (matrices_laws p n) (complex_of p n (row p n fs ∷ [])) (theta_of p n (row p n fs ∷ []) (matrix_unit p n 1 ∷ [])) (e + s) (moved (matrices p n) (degree_in p n 0 M0) s e z)).0 h
+        sym (moved_nothing p n M0 refl s e z) ∙ (coboundary_first (matrices_laws p n) (complex_of p n (row p n fs ∷ [])) (theta_of p n (row p n fs ∷ []) (matrix_unit p n 1 ∷ [])) (e + s) (moved (matrices p n) (degree_in p n 0 M0) s e z)).0 h
 
   -- a family without rows is 0
   pub no_rows : (k : ℕ) (X Y : Mat (polynomials p n) k 1) → k ≡ 0 → X ≡ Y
@@ -99,7 +89,7 @@ module _ (p : Prime) (n : ℕ) where
       ∙ c)
 
   pub unit_ideal_limit : IsZeroLimit p n 0 (in_degree_zero p n (polynomial_one p n ∷ []))
-  unfolding IsZeroLimit in_degree_zero moved matrix_at
+  unfolding IsZeroLimit in_degree_zero system.moved matrix_at
   unit_ideal_limit e z c =
       let q : z ≡ nil (polynomials p n) 1 1 = unit_kernel (length (row p n (polynomial_one p n ∷ [])).columns) e (row_columns (polynomial_one p n ∷ [])) z c in
       (0, subst (λ v. IsCoboundary (matrices p n) (degree_in p n 0 (in_degree_zero p n (polynomial_one p n ∷ []))) (e + 0) v) (sym q) (image_nil (matrices_laws p n) 1 (flip (polynomials p n) (each (polynomials p n) (frobenius_twist p n (e + 0)) (d_below (matrices p n) (complex_of p n (row p n (polynomial_one p n ∷ []) ∷ [])) 0)))))
@@ -110,7 +100,7 @@ module _ (p : Prime) (n : ℕ) where
   zero_element = refl
 
   pub inverting_zero : (i : ℕ) (I : ResolvedIdeal p n) → VanishesAfterInverting p n i I (polynomial_zero p n)
-  unfolding VanishesAfterInverting moved
+  unfolding VanishesAfterInverting system.moved
   inverting_zero i I e z c =
       let q : mul (polynomials p n) z (pow (matrices p n) (element (polynomials p n) (polynomial_zero p n)) 1) ≡ nil (polynomials p n) (length_in p n i I) 1 = ap (mul (polynomials p n) {m = length_in p n i I} {n = 1} {k = 1} z) (pow_one (matrices_laws p n) (element (polynomials p n) (polynomial_zero p n)) ∙ zero_element) ∙ mul_nil (matrices_laws p n) z in
       (1, (0, subst (λ v. IsCoboundary (matrices p n) (degree_in p n i I) (e + 0) v) (sym q) (image_nil (matrices_laws p n) 1 (flip (polynomials p n) (each (polynomials p n) (frobenius_twist p n (e + 0)) (d_below (matrices p n) (complex_of p n I.differentials) i))))))

@@ -1,19 +1,23 @@
 -- Cocycles, coboundaries and moves in words of lists
 use Rattle.std.proofs.Common.{ℕ, suc, ◌+◌, ◌≡◌, ◌∙◌, ◌↔◌, sym, ap, subst, arith, add-zero, List, length}
 use Rattle.fm_gfp.specs.declared.prime.Prime.{Prime}
-use Rattle.fm_algebra.specs.Families.{mul, flip, each, vector}
+use Rattle.fm_algebra.specs.Families.{mul, flip, each, vector, nil, read}
 use Rattle.fm_algebra.specs.Image as image
 use Rattle.fm_algebra.specs.Polynomials.{Polynomial, polynomials, frobenius_twist}
-use Rattle.fm_algebra.specs.PolynomialMatrices.{HasShape, matrix_transpose, matrix_twist, vector_product, InImage, InKernel}
-use Rattle.fm_algebra.proofs.Tables.{vector_apply, length-apply}
+use Rattle.fm_algebra.specs.PolynomialMatrices.{HasShape, matrix_transpose, matrix_twist, vector_product, InImage, InKernel, PolynomialMatrix, GeneratesKernel}
+use Rattle.fm_algebra.proofs.Tables.{vector_apply, length-apply, vector_injective, list_of, length-list_of, vector_list_of}
 use Rattle.fm_algebra.proofs.ListImages.{turned}
 use Rattle.fm_limit.specs.Resolution.{rank_before}
+use Rattle.fm_limit.specs.System as system
 use Rattle.fm_limit.specs.DirectSystem.{IsCocycle, IsCoboundary, move, moved, IsKilledBy}
 use Rattle.fm_limit.specs.ResolvedIdeal.{ResolvedIdeal, matrix_at, columns_of, differential, IsResolved}
 use Rattle.fm_limit.specs.Classes.{matrices, degree_in, length_in, vector_in, moved_once, IsClass, IsCoboundaryAfter}
 use Rattle.fm_limit.proofs.Moves.{cocycle_moves}
-use Rattle.fm_limit.proofs.FactsRead.{matrices_laws, moves_read, below_read, below_fits}
-use Rattle.fm_limit.proofs.MatrixWords.{image_words, kernel_words, kernel_length, dual_fits, dual_read}
+use Rattle.fm_limit.proofs.FactsRead.{matrices_laws, moves_read, below_read, below_fits, matrices_flat}
+use Rattle.fm_limit.proofs.MatrixWords.{image_words, kernel_words, kernel_length, dual_fits, dual_read, transpose_read, transpose_fits, kernel_from, twist_read, twist_fits}
+use Rattle.fm_limit.specs.Facts.{AreCoordinates}
+use Rattle.fm_algebra.proofs.Generation.{GeneratesKernel as KernelOf}
+use Rattle.fm_algebra.proofs.Images.{kernel_twist}
 
 module _ (p : Prime) (n : ℕ) where
   module _ {i : ℕ} {I : ResolvedIdeal p n} (r : IsResolved p n i I) where
@@ -38,7 +42,7 @@ module _ (p : Prime) (n : ℕ) where
     -- no moves make z a coboundary exactly if z is in the image of the transpose of d_i^[q]
     pub coboundary_words : (e : ℕ) (z : List (Polynomial p n)) → length z ≡ length_in p n i I
         → IsCoboundaryAfter p n i I 0 e z ↔ InImage p n (matrix_transpose p n (matrix_twist p n e (differential p n I.differentials i))) z
-    unfolding IsCoboundaryAfter moved
+    unfolding IsCoboundaryAfter system.moved
     coboundary_words e z l =
         let a = rank_before (columns_of p n I.differentials) i in
         let b = length_in p n i I in
@@ -65,7 +69,7 @@ module _ (p : Prime) (n : ℕ) where
 
     -- one move, and then s more
     pub move_words : (s e : ℕ) (z : List (Polynomial p n)) → IsCoboundaryAfter p n i I (suc s) e z ↔ IsCoboundaryAfter p n i I s (suc e) (moved_once p n i I e z)
-    unfolding IsCoboundaryAfter moved
+    unfolding IsCoboundaryAfter system.moved
     move_words s e z =
         let q : e + suc s ≡ suc e + s = omega arith in
         let y = moved (matrices p n) (degree_in p n i I) s (suc e) (move (matrices p n) (degree_in p n i I) e (vector_in p n i I z)) in
@@ -78,3 +82,26 @@ module _ (p : Prime) (n : ℕ) where
       fits = length_moved e z;
       cocycle = subst (λ x. IsCocycle (matrices p n) (degree_in p n i I) (suc e) x) (sym (moved_read e z)) (cocycle_moves (matrices_laws p n) (moves_read p n r) e (vector_in p n i I z) c.cocycle);
     }
+
+    -- a class is the twist of generators of the cocycles times its coordinates
+    pub coordinates_words : (Z : PolynomialMatrix p n) → HasShape p n (length_in p n i I) (length Z.columns) Z → GeneratesKernel p n Z (matrix_transpose p n (matrix_at p n I.differentials i))
+        → (e : ℕ) (z : List (Polynomial p n)) → IsClass p n i I e z → (w : List (Polynomial p n)) × AreCoordinates p n Z e z w
+    unfolding vector_product HasShape
+    coordinates_words Z s k e z c =
+        let P = polynomials p n in
+        let a = length_in p n i I in
+        let b = columns_of p n I.differentials i in
+        let g = length Z.columns in
+        let d = matrix_at p n I.differentials i in
+        let kernel = subst (KernelOf (matrices p n) (read P a g Z)) (transpose_read p n a b d above_fits) (kernel_from p n b a g Z (matrix_transpose p n d) (transpose_fits p n a b d above_fits) s k) in
+        let h = ((kernel_twist (matrices_laws p n) (matrices_flat p n) e (read P a g Z) (flip P {m = a} {n = b} (read P a b d)) kernel) (vector_in p n i I z)).1 (subst (λ X. mul P X (vector_in p n i I z) ≡ nil P b 1) (sym ((matrices_laws p n).twist_flip e (read P a b d))) c.cocycle) in
+        let w : List (Polynomial p n) = list_of P g h.0 in
+        let l : length w ≡ g = length-list_of P g h.0 in
+        let t = twist_fits p n e a g Z s in (
+          w,
+          (
+            l,
+            vector_injective P a (vector_product p n (matrix_twist p n e Z) w) z (length-apply P (matrix_twist p n e Z) w ∙ t.0) c.fits
+                (vector_apply P a g (matrix_twist p n e Z) w t.0 t.1 ∙ ap (λ M. mul P M (vector P g w)) (twist_read p n e a g Z s) ∙ ap (λ v. mul P (each P (frobenius_twist p n e) (read P a g Z)) v) (vector_list_of P g h.0) ∙ h.1),
+          ),
+        )

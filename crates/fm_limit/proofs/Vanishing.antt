@@ -1,4 +1,4 @@
--- The least number of moves, vanishing after inverting an element, and support ideals
+-- The least number of moves, vanishing after inverting an element, and support ideals, for any system with a generating morphism
 use Rattle.std.proofs.Common.{ℕ, zero, suc, ◌+◌, ◌*◌, ◌^◌, ◌<◌, ◌≤◌, ◌≡◌, ◌↔◌, ◌∙◌, sym, ap, subst, arith, add-zero}
 use Rattle.std.proofs.Math.Nat.{mul-zero}
 use native.Mathlib.Decide.{dec_le}
@@ -7,10 +7,9 @@ use Rattle.fm_algebra.specs.Matrices.{Matrices, IsMatrices}
 use Rattle.fm_algebra.specs.Image.{InImage, pow}
 use Rattle.fm_algebra.proofs.Generation.{Generates, SameImage, Everything, Flat, IsPower}
 use Rattle.fm_algebra.proofs.Images.{image_mul, image_twist, image_columns}
-use Rattle.fm_limit.specs.DirectSystem.{Degree, IsCoboundary, moved, IsKilledBy, IsZeroInLimit}
-use Rattle.fm_limit.specs.Limit.{VanishesInverting, Annihilates, IsEnough, IsSupportIdeal}
+use Rattle.fm_limit.specs.System.{System, IsKilledBy, IsZeroInLimit, VanishesInverting, Annihilates, IsEnough, IsSupportIdeal}
 use Rattle.fm_limit.proofs.Chains.{rising}
-use Rattle.fm_limit.proofs.Moves.{Moves, Computed, coboundaries_moves, moved_more, coords, is_class, killed_exactly, to_stable, zero_exactly}
+use Rattle.fm_limit.proofs.SystemMoves.{Computed, coords, is_class, killed_exactly, to_stable, zero_exactly}
 
 -- one bound for finitely many
 pub bounded : (n : ℕ) (P : ℕ → ℕ → Type 0) → ((c k j : ℕ) → P c k → P c (k + j)) → ((c : ℕ) → c < n → (k : ℕ) × P c k)
@@ -75,33 +74,27 @@ module _ {M : Matrices} (L : IsMatrices M) where
   scalar_more f {g} A i j h =
       scalar_columns (pow M f (i + j)) A (λ c b. subst (λ y. InImage M A y) (assoc (basis g c b) (pow M f i) (pow M f j) ∙ ap (λ y. basis g c b ⊛ y) (sym (pow_add f i j))) (image_mul L A (basis g c b ⊛ pow M f i) (pow M f j) (scalar_all (pow M f i) A h (basis g c b))))
 
-  -- what s moves kill, more moves kill
-  pub killed_more : {D : Degree M} → Moves M D → (s m e : ℕ) (z : Mat D.mid 1) → IsKilledBy M D s e z → IsKilledBy M D (s + m) e z
-  killed_more {D} H s m e z h =
-      let q : (e + s) + m ≡ e + (s + m) = omega arith in
-      subst (λ v. IsCoboundary M D (e + (s + m)) v) (sym (moved_more L D s m e z)) (subst (λ x. IsCoboundary M D x (moved M D m (e + s) (moved M D s e z))) q (coboundaries_moves L H m (e + s) (moved M D s e z) h))
-
-  module _ (F : Flat M) {D : Degree M} (H : Moves M D) (X : Computed M D) where
+  module _ (F : Flat M) {S : System M} (X : Computed M S) where
     -- ---- the least number of moves
-    pub stable_enough : IsEnough M D X.t
+    pub stable_enough : IsEnough M S X.t
     stable_enough z c i =
-        let w = coords L F H X zero z c in
-        let k : InImage M (twist zero (X.K X.t)) w.0 = (zero_exactly L F H X zero w.0).0 (subst (λ y. IsZeroInLimit M D zero y) (sym w.1) i) in
-        subst (λ y. IsKilledBy M D X.t zero y) w.1 ((killed_exactly L F H X X.t zero w.0).1 k)
+        let w = coords L F X zero z c in
+        let k : InImage M (twist zero (X.K X.t)) w.0 = (zero_exactly L F X zero w.0).0 (subst (λ y. IsZeroInLimit M S zero y) (sym w.1) i) in
+        subst (λ y. IsKilledBy M S X.t zero y) w.1 ((killed_exactly L F X X.t zero w.0).1 k)
 
-    pub enough_stable : (s : ℕ) → IsEnough M D s → SameImage M (X.K s) (X.K (suc s))
+    pub enough_stable : (s : ℕ) → IsEnough M S s → SameImage M (X.K s) (X.K (suc s))
     enough_stable s f v = (
       rising L X.chain s v,
       λ h.
-          let k : InImage M (twist zero (X.K X.t)) v = subst (λ y. InImage M y v) (sym (twist_none (X.K X.t))) (to_stable L F H X (suc s) v h) in
-          let z : Mat D.mid 1 = twist zero X.Z ⊛ v in
-          let i : IsZeroInLimit M D zero z = (zero_exactly L F H X zero v).1 k in
-          let j : IsKilledBy M D s zero z = f z (is_class L F H X zero v) i in
-          subst (λ y. InImage M y v) (twist_none (X.K s)) ((killed_exactly L F H X s zero v).0 j),
+          let k : InImage M (twist zero (X.K X.t)) v = subst (λ y. InImage M y v) (sym (twist_none (X.K X.t))) (to_stable L F X (suc s) v h) in
+          let z : Mat S.size 1 = twist zero X.Z ⊛ v in
+          let i : IsZeroInLimit M S zero z = (zero_exactly L F X zero v).1 k in
+          let j : IsKilledBy M S s zero z = f z (is_class L F X zero v) i in
+          subst (λ y. InImage M y v) (twist_none (X.K s)) ((killed_exactly L F X s zero v).0 j),
     )
 
     -- if no member before t repeats, t is the least number of moves that is enough
-    pub stable_least : ((s : ℕ) → s < X.t → SameImage M (X.K s) (X.K (suc s)) → ⊥) → IsEnough M D X.t × ((s : ℕ) → IsEnough M D s → X.t ≤ s)
+    pub stable_least : ((s : ℕ) → s < X.t → SameImage M (X.K s) (X.K (suc s)) → ⊥) → IsEnough M S X.t × ((s : ℕ) → IsEnough M S s → X.t ≤ s)
     stable_least first = (
       stable_enough,
       λ s f. elim (dec_le X.t s) [
@@ -111,16 +104,16 @@ module _ {M : Matrices} (L : IsMatrices M) where
     )
 
     -- ---- elements that annihilate
-    pub annihilates_exactly : (a : Mat 1 1) → InImage M (X.K X.t) (scalar a X.g) ↔ Annihilates M D a
+    pub annihilates_exactly : (a : Mat 1 1) → InImage M (X.K X.t) (scalar a X.g) ↔ Annihilates M S a
     annihilates_exactly a = (
       λ h z c.
-          let w = coords L F H X zero z c in
+          let w = coords L F X zero z c in
           let k : InImage M (twist zero (X.K X.t)) (w.0 ⊛ a) = subst (λ y. InImage M y (w.0 ⊛ a)) (sym (twist_none (X.K X.t))) (scalar_all a (X.K X.t) h w.0) in
-          subst (λ y. IsZeroInLimit M D zero y) (sym (assoc (twist zero X.Z) w.0 a) ∙ ap (λ y. y ⊛ a) w.1) ((zero_exactly L F H X zero (w.0 ⊛ a)).1 k),
+          subst (λ y. IsZeroInLimit M S zero y) (sym (assoc (twist zero X.Z) w.0 a) ∙ ap (λ y. y ⊛ a) w.1) ((zero_exactly L F X zero (w.0 ⊛ a)).1 k),
       λ f. scalar_columns a (X.K X.t) (λ c h.
           let b : Mat X.g 1 = basis X.g c h in
-          let i : IsZeroInLimit M D zero (twist zero X.Z ⊛ (b ⊛ a)) = subst (λ y. IsZeroInLimit M D zero y) (assoc (twist zero X.Z) b a) (f (twist zero X.Z ⊛ b) (is_class L F H X zero b)) in
-          subst (λ y. InImage M y (b ⊛ a)) (twist_none (X.K X.t)) ((zero_exactly L F H X zero (b ⊛ a)).0 i)),
+          let i : IsZeroInLimit M S zero (twist zero X.Z ⊛ (b ⊛ a)) = subst (λ y. IsZeroInLimit M S zero y) (assoc (twist zero X.Z) b a) (f (twist zero X.Z ⊛ b) (is_class L F X zero b)) in
+          subst (λ y. InImage M y (b ⊛ a)) (twist_none (X.K X.t)) ((zero_exactly L F X zero (b ⊛ a)).0 i)),
     )
 
     module _ (p : ℕ) (power : IsPower M p) (f : Mat 1 1) where
@@ -129,31 +122,31 @@ module _ {M : Matrices} (L : IsMatrices M) where
           subst (λ y. InImage M A y) (assoc w (pow M f i) (pow M f j) ∙ ap (λ y. w ⊛ y) (sym (pow_add f i j))) (image_mul L A (w ⊛ pow M f i) (pow M f j) h)
 
       -- the limit vanishes after inverting f exactly if some f^k times the unit matrix is in the image of the stable member
-      pub vanishes_exactly : VanishesInverting M D f ↔ ((k : ℕ) × InImage M (X.K X.t) (scalar (pow M f k) X.g))
+      pub vanishes_exactly : VanishesInverting M S f ↔ ((k : ℕ) × InImage M (X.K X.t) (scalar (pow M f k) X.g))
       vanishes_exactly = (there, back)
         where
-          there : VanishesInverting M D f → (k : ℕ) × InImage M (X.K X.t) (scalar (pow M f k) X.g)
+          there : VanishesInverting M S f → (k : ℕ) × InImage M (X.K X.t) (scalar (pow M f k) X.g)
           there v =
               let one : (c : ℕ) (h : c < X.g) → (k : ℕ) × InImage M (X.K X.t) (basis X.g c h ⊛ pow M f k) = λ c h.
               let b : Mat X.g 1 = basis X.g c h in
-              let r = v zero (twist zero X.Z ⊛ b) (is_class L F H X zero b) in
-              let x : IsZeroInLimit M D zero (twist zero X.Z ⊛ (b ⊛ pow M f r.0)) = subst (λ y. IsZeroInLimit M D zero y) (assoc (twist zero X.Z) b (pow M f r.0)) r.1 in
-              (r.0, subst (λ x. InImage M x (b ⊛ pow M f r.0)) (twist_none (X.K X.t)) ((zero_exactly L F H X zero (b ⊛ pow M f r.0)).0 x)) in
+              let r = v zero (twist zero X.Z ⊛ b) (is_class L F X zero b) in
+              let x : IsZeroInLimit M S zero (twist zero X.Z ⊛ (b ⊛ pow M f r.0)) = subst (λ y. IsZeroInLimit M S zero y) (assoc (twist zero X.Z) b (pow M f r.0)) r.1 in
+              (r.0, subst (λ x. InImage M x (b ⊛ pow M f r.0)) (twist_none (X.K X.t)) ((zero_exactly L F X zero (b ⊛ pow M f r.0)).0 x)) in
               let P : ℕ → ℕ → Type 0 = λ c k. (h : c < X.g) → InImage M (X.K X.t) (basis X.g c h ⊛ pow M f k) in
               let all = bounded X.g P (λ c i j q h. more (X.K X.t) (basis X.g c h) i j (q h)) (λ c h. ((one c h).0, λ h'. subst (λ x. InImage M (X.K X.t) (basis X.g c x ⊛ pow M f (one c h).0)) (le_prop {n = suc c} {m = X.g} h h') (one c h).1)) in
               (all.0, scalar_columns (pow M f all.0) (X.K X.t) (λ c h. all.1 c h h))
 
-          back : ((k : ℕ) × InImage M (X.K X.t) (scalar (pow M f k) X.g)) → VanishesInverting M D f
+          back : ((k : ℕ) × InImage M (X.K X.t) (scalar (pow M f k) X.g)) → VanishesInverting M S f
           back h e z i =
-              let c = coords L F H X e z i in
+              let c = coords L F X e z i in
               let n : ℕ = h.0 * (p ^ e) in
               let q : twist e (pow M f h.0) ≡ pow M f n = power e (pow M f h.0) ∙ pow_pow f h.0 (p ^ e) in
               let r : InImage M (twist e (X.K X.t)) (scalar (pow M f n) X.g) = subst (λ x. InImage M (twist e (X.K X.t)) (scalar x X.g)) q (scalar_twist e (pow M f h.0) (X.K X.t) h.1) in
-              (n, subst (λ y. IsZeroInLimit M D e y) (sym (assoc (twist e X.Z) c.0 (pow M f n)) ∙ ap (λ y. y ⊛ pow M f n) c.1) ((zero_exactly L F H X e (c.0 ⊛ pow M f n)).1 (scalar_all (pow M f n) (twist e (X.K X.t)) r c.0)))
+              (n, subst (λ y. IsZeroInLimit M S e y) (sym (assoc (twist e X.Z) c.0 (pow M f n)) ∙ ap (λ y. y ⊛ pow M f n) c.1) ((zero_exactly L F X e (c.0 ⊛ pow M f n)).1 (scalar_all (pow M f n) (twist e (X.K X.t)) r c.0)))
 
     -- an ideal whose members are the a with a times the unit matrix in the image of the stable member is a support ideal
     pub support_exactly : (p : ℕ) → IsPower M p → (member : Mat 1 1 → Type 0)
-        → ((a : Mat 1 1) → member a ↔ InImage M (X.K X.t) (scalar a X.g)) → IsSupportIdeal M D member
+        → ((a : Mat 1 1) → member a ↔ InImage M (X.K X.t) (scalar a X.g)) → IsSupportIdeal M S member
     support_exactly p power member m f = (
       λ v. let r = (vanishes_exactly p power f).0 v in (r.0, (m (pow M f r.0)).1 r.1),
       λ h. (vanishes_exactly p power f).1 (h.0, (m (pow M f h.0)).0 h.1),

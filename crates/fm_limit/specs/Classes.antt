@@ -20,6 +20,16 @@ module _ (p : Prime) (n : ℕ) where
   abbrev pub read_at : (r c : ℕ) → List (PolynomialMatrix p n) → ℕ → (matrices p n).Mat r c
   read_at r c As j = read (polynomials p n) r c (matrix_at p n As j)
 
+  -- how many columns A has; A as a matrix with r rows; and as a square one
+  abbrev pub width : PolynomialMatrix p n → ℕ
+  width A = length A.columns
+
+  abbrev pub with_rows : (r : ℕ) (A : PolynomialMatrix p n) → (matrices p n).Mat r (width A)
+  with_rows r A = read (polynomials p n) r (width A) A
+
+  abbrev pub as_square : (r : ℕ) → PolynomialMatrix p n → (matrices p n).Mat r r
+  as_square r A = read (polynomials p n) r r A
+
   -- the matrices d_1, d_2, .. of a list
   abbrev pub complex_of : List (PolynomialMatrix p n) → Complex (matrices p n)
   complex_of ds = record { cols = columns_of p n ds; d = λ j. read_at (rank p n ds j) (columns_of p n ds j) ds j }
@@ -51,7 +61,8 @@ module _ (p : Prime) (n : ℕ) where
 
   -- the vectors x and y differ by a coboundary of stage e
   unfoldable pub AreCohomologous : (i : ℕ) (I : ResolvedIdeal p n) (e : ℕ) (x y : List (Polynomial p n)) → Type 0
-  AreCohomologous i I e x y = IsCoboundary (matrices p n) (degree_in i I) e (add (polynomials p n) (vector_in i I x) (neg (polynomials p n) (vector_in i I y)))
+  AreCohomologous i I e x y = IsCoboundary (matrices p n) (degree_in i I) e
+      (add (polynomials p n) (vector_in i I x) (neg (polynomials p n) (vector_in i I y)))
 
   -- one move of (e, z), to stage e + 1: the transpose of theta_i^[q] times z
   unfoldable pub moved_once : (i : ℕ) (I : ResolvedIdeal p n) (e : ℕ) → List (Polynomial p n) → List (Polynomial p n)
@@ -90,15 +101,18 @@ module _ (p : Prime) (n : ℕ) where
     pub generators_fit : HasShape p n (length_in i I) (length Z.columns) Z
     pub kernel_fits : HasShape p n (length Z.columns) (length K.columns) K
     pub morphism_fits : HasShape p n (length Z.columns) (length Z.columns) U
-    pub root : IsRoot (matrices p n) (degree_in i I) (length Z.columns) (length K.columns) (read (polynomials p n) (length_in i I) (length Z.columns) Z) (read (polynomials p n) (length Z.columns) (length K.columns) K) (read (polynomials p n) (length Z.columns) (length Z.columns) U)
+    pub root : IsRoot (matrices p n) (degree_in i I) (width Z) (width K) (with_rows (length_in i I) Z) (with_rows (width Z) K)
+        (as_square (width Z) U)
 
   -- the ideal of the given polynomials is a support ideal of the limit
   unfoldable pub IsSupportIdealOf : ℕ → ResolvedIdeal p n → List (Polynomial p n) → Type 0
   IsSupportIdealOf i I fs =
-      IsSupportIdeal (matrices p n) (degree_in i I) (λ a. image.InImage (matrices p n) (read (polynomials p n) 1 (length fs) (row p n fs)) a)
+      IsSupportIdeal (matrices p n) (degree_in i I)
+      (λ a. image.InImage (matrices p n) (read (polynomials p n) 1 (length fs) (row p n fs)) a)
 
   -- ---- the map from the classes of J to those of I that a lift ls of the identity, from the resolution of I to that of J, induces
-  abbrev pub lambda_in : (i : ℕ) (J I : ResolvedIdeal p n) (ls : List (PolynomialMatrix p n)) → (matrices p n).Mat (length_in i J) (length_in i I)
+  abbrev pub lambda_in : (i : ℕ) (J I : ResolvedIdeal p n) (ls : List (PolynomialMatrix p n))
+      → (matrices p n).Mat (length_in i J) (length_in i I)
   lambda_in i J I ls = lambda_of I.differentials J.differentials ls i
 
   -- the image of (e, z): the transpose of lambda_i^[q] times z

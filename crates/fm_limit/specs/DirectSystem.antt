@@ -1,7 +1,9 @@
 -- The direct system of the modules Ext^i(R/I^[q], R), by stages: cocycles, coboundaries, classes and moves.
-use Rattle.std.specs.Prelude.{ℕ, zero, suc, ◌+◌, ◌≡◌}
+use Rattle.std.specs.Prelude.{ℕ}
 use Rattle.fm_algebra.specs.Matrices.{Matrices}
 use Rattle.fm_algebra.specs.Image.{InImage, InKernel}
+use Rattle.fm_limit.specs.System as system
+use Rattle.fm_limit.specs.System.{System}
 use Rattle.fm_limit.specs.Resolution.{rank_of, rank_before, Complex, d_below}
 
 module _ (M : Matrices) where
@@ -41,19 +43,22 @@ module _ (M : Matrices) where
   abbrev pub move : (D : Degree) → ℕ → Mat D.mid 1 → Mat D.mid 1
   move D e z = flip (twist e D.theta) ⊛ z
 
+  -- the classes of one degree as a direct system
+  abbrev pub degree_system : Degree → System M
+  degree_system D = record { size = D.mid; IsCocycle = IsCocycle D; IsCoboundary = IsCoboundary D; step = λ e. flip (twist e D.theta) }
+
   -- s moves from stage e
-  unfoldable pub moved : (D : Degree) → ℕ → ℕ → Mat D.mid 1 → Mat D.mid 1
-  moved D zero e z = z
-  moved D (suc s) e z = moved D s (suc e) (move D e z)
+  abbrev pub moved : (D : Degree) → ℕ → ℕ → Mat D.mid 1 → Mat D.mid 1
+  moved D = system.moved M (degree_system D)
 
   -- s moves make (e, z) a coboundary
   abbrev pub IsKilledBy : (D : Degree) → ℕ → ℕ → Mat D.mid 1 → Type 0
-  IsKilledBy D s e z = IsCoboundary D (e + s) (moved D s e z)
+  IsKilledBy D = system.IsKilledBy M (degree_system D)
 
   -- (e, z) is zero in the limit: some number of moves makes it a coboundary
   abbrev pub IsZeroInLimit : (D : Degree) → ℕ → Mat D.mid 1 → Type 0
-  IsZeroInLimit D e z = (s : ℕ) × IsKilledBy D s e z
+  IsZeroInLimit D = system.IsZeroInLimit M (degree_system D)
 
   -- (e, z) and (e', z') are the same in the limit: moved to some common stage they differ by a coboundary
   abbrev pub IsSameInLimit : (D : Degree) → ℕ → Mat D.mid 1 → ℕ → Mat D.mid 1 → Type 0
-  IsSameInLimit D e z e' z' = (s : ℕ) × (s' : ℕ) × (e + s ≡ e' + s') × IsCoboundary D (e + s) (moved D s e z ⊕ neg (moved D s' e' z'))
+  IsSameInLimit D = system.IsSameInLimit M (degree_system D)

@@ -38,6 +38,14 @@ module _ (p : Prime) (n : ℕ) where
     pub begins : ColumnsInImage (matrix_twist p n 1 (K 0)) (matrix_product p n U (K 0))
     pub step : (s : ℕ) → GeneratesPreimage p n (K (suc s)) U (matrix_twist p n 1 (K s))
 
+  -- K_0 .. K_(t+1) is a chain of the square matrix U with a repeat at t: the columns of U * K_0 lie in im K_0^[p], and those of K_(t+1)
+  -- in im K_t.
+  pub record IsRepeatingChain (U : PolynomialMatrix p n) (Ks : List (PolynomialMatrix p n)) (t : ℕ) : Type 0 where
+    pub square : HasShape p n (length U.columns) (length U.columns) U
+    pub begins : ColumnsInImage (matrix_twist p n 1 (matrix_at p n Ks 0)) (matrix_product p n U (matrix_at p n Ks 0))
+    pub chain : IsChain U Ks (suc t)
+    pub repeats : ColumnsInImage (matrix_at p n Ks t) (matrix_at p n Ks (suc t))
+
   -- s steps from w at stage e; a step multiplies by U^[q] and goes to the next stage
   unfoldable pub steps_of : PolynomialMatrix p n → ℕ → ℕ → List (Polynomial p n) → List (Polynomial p n)
   steps_of U zero e w = w
@@ -49,7 +57,8 @@ module _ (p : Prime) (n : ℕ) where
 
   -- The facts of one degree: a resolution with its lift, Ext with its generating morphism, and the chain that begins with the
   -- relations, through its repeat: the columns of K_(t+1) lie in im K_t.
-  pub record DegreeFacts (i : ℕ) (I : ResolvedIdeal p n) (Z U : PolynomialMatrix p n) (Ks : List (PolynomialMatrix p n)) (t : ℕ) : Type 0 where
+  pub record DegreeFacts (i : ℕ) (I : ResolvedIdeal p n) (Z U : PolynomialMatrix p n) (Ks : List (PolynomialMatrix p n))
+      (t : ℕ) : Type 0 where
     pub resolved : IsResolved p n i I
     pub ext : PresentsExt i I Z (matrix_at p n Ks 0) U
     pub chain : IsChain U Ks (suc t)
@@ -85,7 +94,8 @@ module _ (p : Prime) (n : ℕ) where
   diagonal_blocks K =
       let g = K.rows in
       let k = length K.columns in
-      table (polynomials p n) (g * g) (g * k) (λ i j. cond (eqb (i / g) (j / k)) (entry (polynomials p n) K (i % g) (j % k)) (polynomials p n).zero)
+      table (polynomials p n) (g * g) (g * k)
+      (λ i j. cond (eqb (i / g) (j / k)) (entry (polynomials p n) K (i % g) (j % k)) (polynomials p n).zero)
 
   -- P is a row that generates all a with a times the unit matrix in im K, column by column: all a that send the unit matrix, as
   -- one column, into the image of the blocks of K.

@@ -55,7 +55,8 @@ module _ (p : Prime) (n : ℕ) where
     pub count : length ts ≡ i + 1
     pub fits : (j : ℕ) → j < length ts → HasShape p n (rank ds j) (rank ds j) (matrix_at ts j)
     pub first : matrix_at ts 0 ≡ matrix_unit p n 1
-    pub square : (j : ℕ) → j < i → matrix_product p n (matrix_at ds j) (matrix_at ts (suc j)) ≡ matrix_product p n (matrix_at ts j) (matrix_twist p n 1 (matrix_at ds j))
+    pub square : (j : ℕ) → j < i → matrix_product p n (matrix_at ds j) (matrix_at ts (suc j))
+        ≡ matrix_product p n (matrix_at ts j) (matrix_twist p n 1 (matrix_at ds j))
 
   -- I has a resolution through degree i with a Frobenius lift
   pub record IsResolved (i : ℕ) (I : ResolvedIdeal p n) : Type 0 where
@@ -68,7 +69,8 @@ module _ (p : Prime) (n : ℕ) where
     pub count : length ls ≡ i + 1
     pub fits : (j : ℕ) → j < length ls → HasShape p n (rank us j) (rank ds j) (matrix_at ls j)
     pub first : matrix_at ls 0 ≡ matrix_unit p n 1
-    pub square : (j : ℕ) → j < i → matrix_product p n (matrix_at us j) (matrix_at ls (suc j)) ≡ matrix_product p n (matrix_at ls j) (matrix_at ds j)
+    pub square : (j : ℕ) → j < i → matrix_product p n (matrix_at us j) (matrix_at ls (suc j))
+        ≡ matrix_product p n (matrix_at ls j) (matrix_at ds j)
 
   -- I and J are one ideal, resolved twice through degree i
   pub record AreOneIdeal (i : ℕ) (I J : ResolvedIdeal p n) : Type 0 where

@@ -16,7 +16,7 @@ same_entries a b l same = same_number_lists a b (sym l) (λ k below. same k)
 
 module _ (R : ℕ → ℕ → Ordering) where
   -- what stands before the places that are reversed onto two lists
-  common : ((i : ℕ) → R i i ≡ Equal) → (a u v : List ℕ) → slice_cmp R (reverse_aux a u) (reverse_aux a v) ≡ slice_cmp R u v
+  pub common : ((i : ℕ) → R i i ≡ Equal) → (a u v : List ℕ) → slice_cmp R (reverse_aux a u) (reverse_aux a v) ≡ slice_cmp R u v
   common ties [] u v = refl
   common ties (i ∷ a) u v = common ties a (i ∷ u) (i ∷ v) ∙ ap (λ r. ordering_then r (slice_cmp R u v)) (ties i)
 

@@ -5,3 +5,6 @@ pub mod Packing
 pub mod FirstVariable
 pub mod LastVariable
 pub mod OrderWords
+pub mod Words
+pub mod Tops
+pub mod Twists

@@ -1,8 +1,4 @@
-// The exponents of monomials: their type and their bound. To raise the bound change these two lines; eight times the
-// bound has to fit `u32`. Where the type goes on past the bound, `Mono::of` then requires what it is given to be within it.
+// The bound on the exponents of monomials.
 
-/// An exponent.
-pub type Exponent = u16;
-
-/// The greatest exponent of a monomial.
-pub const EXPONENT_BOUND: Exponent = 65_535;
+/// The greatest exponent of a monomial. Eight times the bound fits `u32`, for the total degree.
+pub const EXPONENT_BOUND: u32 = 16_777_215;

@@ -9,6 +9,6 @@ pub mod order;
 #[cfg(test)]
 mod tests;
 
-pub use exponent::{EXPONENT_BOUND, Exponent};
+pub use exponent::EXPONENT_BOUND;
 pub use mono::Mono;
 pub use order::Order;

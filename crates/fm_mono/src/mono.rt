@@ -1,19 +1,22 @@
 // Monomials.
 ghost use Rattle.std.specs.Prelude.{IsTrue, length, replicate, slice_index, sum, true, ◌+◌, ◌<◌, ◌^◌, ◌↔◌, ◌≡◌, ◌≤◌};
 ghost use Rattle.fm_tuple.specs.Tuple.{TupleDivides, tuple_difference, tuple_maximum, tuple_multiple, tuple_sum};
-ghost use Rattle.fm_mono.specs.Bounded.{bounded, is_bounded};
+ghost use Rattle.fm_mono.specs.Bounded.{bounded, exponent_bound, is_bounded};
+ghost use Rattle.fm_mono.specs.Orders.{first_cmp, last_cmp, monomial_cmp};
 
 use crate::entries::{
-    add_all, add_each, capped_power, divides_each, maximum_each, multiply_each, subtract_each,
-    total,
+    add_all, are_within, capped_power, compare_first, compare_last, divides_all, maximum_all,
+    multiply_all, subtract_all, total,
 };
-use crate::exponent::{EXPONENT_BOUND, Exponent};
+use crate::exponent::EXPONENT_BOUND;
+use crate::order::Order;
+use std::cmp::Ordering;
 use std::marker::Model;
 
 /// A monomial in one to eight variables. Contracts see it as the list of its exponents.
 #[derive(Clone, Copy, Debug, PartialEq, Eq)]
 pub struct Mono {
-    exponents: [Exponent; 8],
+    exponents: [u32; 8],
     degree: u32,
     vars: u8,
 }
@@ -46,9 +49,10 @@ impl Mono {
         }
     }
 
-    pub fn of(exponents: &[Exponent]) -> Mono
+    pub fn of(exponents: &[u32]) -> Mono
         requires some { 1 ≤ length exponents.now }
         requires few { length exponents.now ≤ 8 }
+        requires within { is_bounded exponents.now ≡ true }
         ensures { result ≡ exponents.now }
     {
         let mut all = [0; 8];
@@ -66,6 +70,7 @@ impl Mono {
         ensures exact { result ≡ length self }
         ensures some { 1 ≤ result }
         ensures few { result ≤ 8 }
+        ensures within { is_bounded self ≡ true }
     {
         self.vars
     }
@@ -79,21 +84,65 @@ impl Mono {
     }
 
     #[inline]
-    pub fn exponent(self, k: u8) -> Exponent
+    pub fn exponent(self, k: u8) -> u32
         requires { k < length self }
-        ensures { result ≡ slice_index self k }
+        ensures exact { result ≡ slice_index self k }
+        ensures within { result ≤ exponent_bound }
     {
         self.exponents[usize::from(k)]
     }
 
+    /// Compares in an order. Neither monomial is copied.
     #[inline]
-    pub fn exponents(&self) -> &[Exponent]
-        ensures same { result.now ≡ self.now }
-        ensures some { 1 ≤ length self.now }
-        ensures few { length self.now ≤ 8 }
-        ensures within { is_bounded self.now ≡ true }
+    pub fn compare(&self, order: Order, b: &Mono) -> Ordering
+        requires { length self.now ≡ length b.now }
+        ensures { result ≡ monomial_cmp order self.now b.now }
     {
-        &self.exponents[..usize::from(self.vars)]
+        match order {
+            Order::Grevlex => self.compare_grevlex(b),
+            Order::Deglex => self.compare_deglex(b),
+            Order::Lex => self.compare_first(b),
+        }
+    }
+
+    #[inline]
+    fn compare_grevlex(&self, b: &Mono) -> Ordering
+        requires { length self.now ≡ length b.now }
+        ensures { result ≡ monomial_cmp Order.Grevlex self.now b.now }
+    {
+        match self.degree().cmp(&b.degree()) {
+            Ordering::Equal => self.compare_last(b),
+            decided => decided,
+        }
+    }
+
+    #[inline]
+    fn compare_deglex(&self, b: &Mono) -> Ordering
+        requires { length self.now ≡ length b.now }
+        ensures { result ≡ monomial_cmp Order.Deglex self.now b.now }
+    {
+        match self.degree().cmp(&b.degree()) {
+            Ordering::Equal => self.compare_first(b),
+            decided => decided,
+        }
+    }
+
+    // Compares by the first variable whose exponents differ, the greater exponent being greater.
+    #[inline]
+    fn compare_first(&self, b: &Mono) -> Ordering
+        requires { length self.now ≡ length b.now }
+        ensures { result ≡ first_cmp self.now b.now }
+    {
+        compare_first(&self.exponents, &b.exponents)
+    }
+
+    // Compares by the last variable whose exponents differ, the smaller exponent being greater.
+    #[inline]
+    fn compare_last(&self, b: &Mono) -> Ordering
+        requires { length self.now ≡ length b.now }
+        ensures { result ≡ last_cmp self.now b.now }
+    {
+        compare_last(&self.exponents, &b.exponents)
     }
 
     /// The product, where no exponent of it passes the bound.
@@ -102,47 +151,30 @@ impl Mono {
         requires { length self ≡ length b }
         ensures { result ≡ bounded (tuple_sum self b) }
     {
-        if self.degree + b.degree <= u32::from(EXPONENT_BOUND) {
-            return Some(self.times_small(&b));
+        let exponents = add_all(&self.exponents, &b.exponents);
+        let degree = self.degree + b.degree;
+        if !are_within(&exponents, degree) {
+            return None;
         }
-        self.times_tested(&b)
+        Some(Mono {
+            exponents,
+            degree,
+            vars: self.vars,
+        })
     }
 
-    // The product, where its total degree is within the bound.
+    /// The product, no exponent of which passes the bound.
     #[inline]
-    fn times_small(&self, b: &Mono) -> Mono
+    pub fn times_within(&self, b: &Mono) -> Mono
         requires same { length self.now ≡ length b.now }
-        requires small { sum self.now + sum b.now ≤ EXPONENT_BOUND }
-        ensures exact { result ≡ tuple_sum self.now b.now }
-        ensures within { is_bounded (tuple_sum self.now b.now) ≡ true }
+        requires within { is_bounded (tuple_sum self.now b.now) ≡ true }
+        ensures { result ≡ tuple_sum self.now b.now }
     {
         Mono {
             exponents: add_all(&self.exponents, &b.exponents),
             degree: self.degree + b.degree,
             vars: self.vars,
         }
-    }
-
-    // The product, with a test of each exponent.
-    #[cold]
-    #[inline(never)]
-    fn times_tested(&self, b: &Mono) -> Option<Mono>
-        requires { length self.now ≡ length b.now }
-        ensures { result ≡ bounded (tuple_sum self.now b.now) }
-    {
-        let mut all = [0; 8];
-        if !add_each(
-            self.exponents(),
-            b.exponents(),
-            &mut all[..usize::from(self.vars)],
-        ) {
-            return None;
-        }
-        Some(Mono {
-            exponents: all,
-            degree: self.degree + b.degree,
-            vars: self.vars,
-        })
     }
 
     #[inline]
@@ -153,7 +185,7 @@ impl Mono {
         if self.degree > b.degree {
             return false;
         }
-        divides_each(self.exponents(), b.exponents())
+        divides_all(&self.exponents, &b.exponents)
     }
 
     pub fn quotient(self, b: Mono) -> Mono
@@ -161,14 +193,8 @@ impl Mono {
         requires divisible { TupleDivides b self }
         ensures { result ≡ tuple_difference self b }
     {
-        let mut all = [0; 8];
-        subtract_each(
-            self.exponents(),
-            b.exponents(),
-            &mut all[..usize::from(self.vars)],
-        );
         Mono {
-            exponents: all,
+            exponents: subtract_all(&self.exponents, &b.exponents),
             degree: self.degree - b.degree,
             vars: self.vars,
         }
@@ -179,13 +205,10 @@ impl Mono {
         requires { length self ≡ length b }
         ensures { result ≡ tuple_maximum self b }
     {
-        let mut all = [0; 8];
-        let maxima = &mut all[..usize::from(self.vars)];
-        maximum_each(self.exponents(), b.exponents(), maxima);
-        let degree = total(maxima);
+        let exponents = maximum_all(&self.exponents, &b.exponents);
         Mono {
-            exponents: all,
-            degree,
+            exponents,
+            degree: total(&exponents),
             vars: self.vars,
         }
     }
@@ -194,13 +217,10 @@ impl Mono {
     pub fn twist(self, p: u8, e: u8) -> Option<Mono>
         ensures { result ≡ bounded (tuple_multiple (p ^ e) self) }
     {
-        let mut all = [0; 8];
         let q = capped_power(p, e);
-        if !multiply_each(self.exponents(), q, &mut all[..usize::from(self.vars)]) {
-            return None;
-        }
+        let exponents = multiply_all(&self.exponents, q)?;
         Some(Mono {
-            exponents: all,
+            exponents,
             degree: q * self.degree,
             vars: self.vars,
         })

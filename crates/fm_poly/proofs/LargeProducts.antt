@@ -15,8 +15,7 @@ use Rattle.fm_tuple.proofs.Tuples.{length_tuple_sum}
 use Rattle.fm_tuple.proofs.TupleEntries.{get_or_entrywise}
 use Rattle.fm_gfp.specs.Primes.{prime_value}
 use Rattle.fm_gfp.specs.declared.prime.Prime.{Prime}
-use Rattle.fm_mono.specs.Bounded.{is_bounded}
-use Rattle.fm_mono.specs.declared.exponent.TheConstants.{EXPONENT_BOUND}
+use Rattle.fm_mono.specs.Bounded.{exponent_bound, is_bounded}
 use Rattle.fm_mono.specs.declared.order.Order.TheVariants.{Lex}
 use Rattle.fm_mono.proofs.Bounds.{is_bounded_fails, zeros_within}
 use Rattle.fm_mono.proofs.OrderLaws.{nat_cmp_alike, monomial_cmp_exact, monomial_cmp_sum}
@@ -79,17 +78,17 @@ unfolding place_cmp
 greater_entry i a b h = ap (λ r. ordering_then r (slice_cmp nat_cmp a b)) (sym (nat_cmp_is (get_or a i 0) (get_or b i 0) Greater h))
 
 -- ---- a tuple above the bound has an entry above it
-large_at : (i : ℕ) (a : List ℕ) (b : Bool) → nat_le i EXPONENT_BOUND ≡ b → (b && is_bounded a) ≡ false
-    → (is_bounded a ≡ false → (k : ℕ) × (k < length a) × (EXPONENT_BOUND < get_or a k 0)) → (k : ℕ) × (k < length (i ∷ a)) × (EXPONENT_BOUND < get_or (i ∷ a) k 0)
-large_at i a true e h later = let found : (k : ℕ) × (k < length a) × (EXPONENT_BOUND < get_or a k 0) = later h in (suc found.0, omega (arith, found.1), found.2)
+large_at : (i : ℕ) (a : List ℕ) (b : Bool) → nat_le i exponent_bound ≡ b → (b && is_bounded a) ≡ false
+    → (is_bounded a ≡ false → (k : ℕ) × (k < length a) × (exponent_bound < get_or a k 0)) → (k : ℕ) × (k < length (i ∷ a)) × (exponent_bound < get_or (i ∷ a) k 0)
+large_at i a true e h later = let found : (k : ℕ) × (k < length a) × (exponent_bound < get_or a k 0) = later h in (suc found.0, omega (arith, found.1), found.2)
 large_at i a false e h later = (zero, omega arith, above i e)
   where
-    above : (i : ℕ) → nat_le i EXPONENT_BOUND ≡ false → EXPONENT_BOUND < i
+    above : (i : ℕ) → nat_le i exponent_bound ≡ false → exponent_bound < i
     above i e = grind (arith, nat_tests)
 
-large_entry : (a : List ℕ) → is_bounded a ≡ false → (k : ℕ) × (k < length a) × (EXPONENT_BOUND < get_or a k 0)
+large_entry : (a : List ℕ) → is_bounded a ≡ false → (k : ℕ) × (k < length a) × (exponent_bound < get_or a k 0)
 large_entry [] h = cc
-large_entry (i ∷ a) h = large_at i a (nat_le i EXPONENT_BOUND) refl h (large_entry a)
+large_entry (i ∷ a) h = large_at i a (nat_le i exponent_bound) refl h (large_entry a)
 
 module _ (p : Prime) (n : ℕ) where
   -- ---- the largest exponent of a variable
@@ -130,7 +129,7 @@ module _ (p : Prime) (n : ℕ) where
   unfolding polynomial_product
   product_beyond f g h =
       let fits : length h.a ≡ length h.b = tuple_fits f h.a h.a_of_f ∙ sym (tuple_fits g h.b h.b_of_g) in
-      let large : (k : ℕ) × (k < length (tuple_sum h.a h.b)) × (EXPONENT_BOUND < get_or (tuple_sum h.a h.b) k 0) = large_entry (tuple_sum h.a h.b) h.passes in
+      let large : (k : ℕ) × (k < length (tuple_sum h.a h.b)) × (exponent_bound < get_or (tuple_sum h.a h.b) k 0) = large_entry (tuple_sum h.a h.b) h.passes in
       let top_f : Largest large.0 f h.a = largest large.0 f h.a h.a_of_f in
       let top_g : Largest large.0 g h.b = largest large.0 g h.b h.b_of_g in
       let head : IsHead (place_cmp large.0) ((polynomials p n).mul f g) (tuple_sum top_f.tuple top_g.tuple) =
@@ -147,7 +146,7 @@ module _ (p : Prime) (n : ℕ) where
             (more (get_or (tuple_sum h.a h.b) large.0 0) (get_or (tuple_sum top_f.tuple top_g.tuple) large.0 0) _ _ _ _ first second top_f.above top_g.above large.2);
       }
     where
-      more : (s t x y u v : ℕ) → s ≡ x + y → t ≡ u + v → x ≤ u → y ≤ v → EXPONENT_BOUND < s → EXPONENT_BOUND < t
+      more : (s t x y u v : ℕ) → s ≡ x + y → t ≡ u + v → x ≤ u → y ≤ v → exponent_bound < s → exponent_bound < t
       more s t x y u v es et xu yv h = omega arith
 
   decided : (b : Bool) → ¬ (b ≡ false) → b ≡ true
@@ -198,11 +197,11 @@ module _ (p : Prime) (n : ℕ) where
 
   large_sum : (a b : List ℕ) → length a ≡ length b → is_bounded a ≡ false → is_bounded (tuple_sum a b) ≡ false
   large_sum a b l h =
-      let large : (k : ℕ) × (k < length a) × (EXPONENT_BOUND < get_or a k 0) = large_entry a h in
+      let large : (k : ℕ) × (k < length a) × (exponent_bound < get_or a k 0) = large_entry a h in
       is_bounded_fails (tuple_sum a b) large.0 (subst (λ m. large.0 < m) (sym (length_tuple_sum a b l)) large.1)
-      (subst (λ m. EXPONENT_BOUND < m) (sym (entry_sum large.0 a b l)) (at_least (get_or a large.0 0) (get_or b large.0 0) large.2))
+      (subst (λ m. exponent_bound < m) (sym (entry_sum large.0 a b l)) (at_least (get_or a large.0 0) (get_or b large.0 0) large.2))
     where
-      at_least : (x y : ℕ) → EXPONENT_BOUND < x → EXPONENT_BOUND < x + y
+      at_least : (x y : ℕ) → exponent_bound < x → exponent_bound < x + y
       at_least x y w = omega arith
 
   beyond_next : (m : ℕ) (f : Polynomial p n) (b : List ℕ) → ¬ (coefficient p n f b ≡ 0) → IsBeyondBound p n (polynomial_power p n m f) → IsBeyondBound p n (polynomial_power p n (suc m) f)

@@ -12,7 +12,4 @@ pub mod BoundSteps
 pub mod PowerSteps
 pub mod TwistSteps
 pub mod KeptTerms
-pub mod PieceSteps
-pub mod SpellingSteps
-pub mod TestNames
 pub mod LargeProducts

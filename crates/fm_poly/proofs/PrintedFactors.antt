@@ -124,7 +124,7 @@ factors_read (m ∷ ms) (e ∷ es) h l b = elim (cases_eq e 0) [
       )
 ]
 
-factors_are_texts : (names : List Bytes) (es : List ℕ) → are_names names ≡ true → AllBelow (2 ^ 64) es → AreTexts 2 (factor_texts names es)
+pub factors_are_texts : (names : List Bytes) (es : List ℕ) → are_names names ≡ true → AllBelow (2 ^ 64) es → AreTexts 2 (factor_texts names es)
 factors_are_texts [] es h b = tt
 factors_are_texts (m ∷ ms) [] h b = tt
 factors_are_texts (m ∷ ms) (e ∷ es) h b =
@@ -167,7 +167,7 @@ pub record HasFirst (xs : List Bytes) : Type 0 where
   pub more : List Bytes
   pub is : xs ≡ first ∷ more
 
-with_coefficient_texts : (fs : List Bytes) (c : ℕ) → c < 2 ^ 64 → AreTexts 2 fs → AreTexts 2 (with_coefficient c fs) × HasFirst (with_coefficient c fs)
+pub with_coefficient_texts : (fs : List Bytes) (c : ℕ) → c < 2 ^ 64 → AreTexts 2 fs → AreTexts 2 (with_coefficient c fs) × HasFirst (with_coefficient c fs)
 with_coefficient_texts [] c b t = ((text_more 1 2 (omega arith) (decimal c) (number_text c b), tt), record { first = decimal c; more = []; is = refl })
 with_coefficient_texts (g ∷ gs) c b t = by_test (nat_eq c 1) where
   by_test : (u : Bool) → AreTexts 2 (if u then g ∷ gs else (decimal c ∷ g ∷ gs)) × HasFirst (if u then g ∷ gs else (decimal c ∷ g ∷ gs))

@@ -1,7 +1,8 @@
 -- The steps of printing.
-use Rattle.std.proofs.Common.{◌≡◌, ℕ, ◌<◌, List, [], ◌∷◌, ◌++◌, map, length, sum, refl, sym, ap, subst, ◌∙◌, arith, inl, inr, append_assoc, append-nil}
+use Rattle.std.proofs.Common.{◌≡◌, ℕ, ◌<◌, ◌≤◌, drop, List, [], ◌∷◌, ◌++◌, map, length, sum, refl, sym, ap, subst, ◌∙◌, arith, inl, inr, append_assoc, append-nil}
 use Rattle.std.specs.Prelude.{Bool, true, false, if◌then◌else◌, nat_eq, decimal}
 use Rattle.std.specs.List.{join_with_byte}
+use Rattle.std.proofs.Math.ListN.{drop_of_length-le}
 use Rattle.std.proofs.lemmas.List.Sums.{sum_by-cons}
 use Rattle.std.proofs.lemmas.Bool.{cases_eq, eq-eqb, ne_eqb}
 use Rattle.fm_poly.specs.Texts.{Bytes, Terms, factor_text, factor_texts, with_coefficient, term_text, poly_text}
@@ -49,6 +50,17 @@ pub factor_written : (old mid new name : Bytes) (started : Bool) (e : ℕ) (fs :
     → new ++ joined 42 true fs ≡ old ++ joined 42 started (if nat_eq e 0 then fs else (factor_text name e ∷ fs))
 factor_written old mid new name started e fs n m w =
     rw (ne_eqb e 0 n) (ap (λ y. y ++ joined 42 true fs) (w ∙ ap (λ y. y ++ factor_text name e) m) ∙ ap (λ y. y ++ joined 42 true fs) (append_assoc old (separator started) (factor_text name e)) ∙ append_assoc old (separator started ++ factor_text name e) (joined 42 true fs) ∙ ap (λ y. old ++ y) (separated started (factor_text name e) fs))
+
+-- no variable is left
+no_variable : (ms : List Bytes) → factor_texts ms [] ≡ []
+no_variable [] = refl
+no_variable (m ∷ ms) = refl
+
+pub factors_end : (old now all : Bytes) (ms : List Bytes) (es : List ℕ) (k : ℕ) (started : Bool) → Writing old now (joined 42 started (factor_texts ms (drop k es))) all
+    → length es ≤ k → now ≡ old ++ all
+factors_end old now all ms es k started w past =
+    written old now all (subst (λ rest. Writing old now rest all)
+    (ap (λ fs. joined 42 started (factor_texts ms fs)) (drop_of_length-le es past) ∙ ap (joined 42 started) (no_variable ms) ∙ joined_none 42 started) w)
 
 -- a term after a separator
 pub term_written : (c : ℕ) (mid new x : Bytes) (old : Bytes) (xs : List Bytes) → mid ≡ old ++ c ∷ [] → new ≡ mid ++ x → new ++ joined c true xs ≡ old ++ joined c true (x ∷ xs)

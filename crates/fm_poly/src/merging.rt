@@ -33,7 +33,7 @@ pub(crate) fn merge(
             out.extend_from_slice(f)?;
             return Ok(out);
         };
-        match ring.order.compare(x.mono, y.mono) {
+        match x.mono.compare(ring.order, &y.mono) {
             Ordering::Greater => {
                 out.push(*x)?;
                 f = later_f;

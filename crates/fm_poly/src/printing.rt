@@ -6,7 +6,7 @@ ghost use Rattle.fm_poly.specs.Printing.{Extends, HaveLength, joined, separator}
 ghost use Rattle.fm_poly.specs.Texts.{Bytes, factor_text, factor_texts, poly_text, term_text};
 
 use crate::Term;
-use fm_mono::Exponent;
+use fm_mono::Mono;
 use itoa::Buffer;
 use std::alloc::AllocError;
 
@@ -52,12 +52,12 @@ fn push_term(names: &[String], term: Term, out: &mut Vec<u8>) -> Result<(), Allo
     ensures prefix { Extends out.old.items out.new.items }
 {
     if leaves_out_coefficient(&term) {
-        push_factors(names, term.mono.exponents(), false, out)?;
+        push_factors(names, &term.mono, false, out)?;
         return Ok(());
     }
     let mut digits = Buffer::new();
     out.extend_from_slice(digits.format(term.coeff.number()).as_bytes())?;
-    push_factors(names, term.mono.exponents(), true, out)?;
+    push_factors(names, &term.mono, true, out)?;
     Ok(())
 }
 
@@ -71,33 +71,29 @@ fn leaves_out_coefficient(term: &Term) -> bool
 /// Appends the factors of a monomial, each after a `*` where something stands before it.
 fn push_factors(
     names: &[String],
-    exponents: &[Exponent],
+    mono: &Mono,
     started: bool,
     out: &mut Vec<u8>,
 ) -> Result<(), AllocError>
-    ensures ok { OnOk result (out.new.items ≡ out.old.items ++ joined 42 started (factor_texts (map string_bytes names.now) exponents.now)) }
+    ensures ok { OnOk result (out.new.items ≡ out.old.items ++ joined 42 started (factor_texts (map string_bytes names.now) mono.now)) }
     ensures prefix { Extends out.old.items out.new.items }
 {
-    let mut names_left = names;
-    let mut exponents_left = exponents;
+    let mut left = names;
     let mut some = started;
-    'factors: loop {
-        let Some((name, more_names)) = names_left.split_first() else {
+    for k in 0..mono.vars() {
+        let Some((name, rest)) = left.split_first() else {
             return Ok(());
         };
-        let Some((exponent, more_exponents)) = exponents_left.split_first() else {
-            return Ok(());
-        };
-        some = push_factor(name.as_str(), *exponent, some, out)?;
-        names_left = more_names;
-        exponents_left = more_exponents;
+        some = push_factor(name.as_str(), mono.exponent(k), some, out)?;
+        left = rest;
     }
+    Ok(())
 }
 
 /// Appends a factor, unless its exponent is 0, and tells whether something stands before the next one.
 fn push_factor(
     name: &str,
-    exponent: Exponent,
+    exponent: u32,
     started: bool,
     out: &mut Vec<u8>,
 ) -> Result<bool, AllocError>
@@ -123,7 +119,7 @@ fn push_separator(started: bool, out: &mut Vec<u8>) -> Result<(), AllocError>
     Ok(())
 }
 
-fn push_power(name: &str, exponent: Exponent, out: &mut Vec<u8>) -> Result<(), AllocError>
+fn push_power(name: &str, exponent: u32, out: &mut Vec<u8>) -> Result<(), AllocError>
     ensures ok { OnOk result (out.new.items ≡ out.old.items ++ factor_text name.now exponent) }
     ensures prefix { Extends out.old.items out.new.items }
 {

@@ -1,15 +1,15 @@
 // The operations against values found by hand.
-ghost use Rattle.std.specs.Prelude.{All, IfOk, ◌≡◌};
+ghost use Rattle.std.specs.Prelude.{All, IfOk, length, ◌≡◌};
 ghost use Rattle.fm_poly.specs.Polys.{IsTermOf};
 
 use crate::{Poly, PolyError, Ring, Term};
 use fm_gfp::Prime;
-use fm_mono::{Mono, Order};
+use fm_mono::{EXPONENT_BOUND, Mono, Order};
 use std::alloc::{AllocError, Global};
 use std::test::Fail;
 
 // Terms in x and y: both exponents and the coefficient.
-pub(crate) type Listed = ([u16; 2], u64);
+pub(crate) type Listed = ([u32; 2], u64);
 
 pub(crate) const PLANE: Ring = Ring {
     prime: Prime::Five,
@@ -17,13 +17,22 @@ pub(crate) const PLANE: Ring = Ring {
     order: Order::Grevlex,
 };
 
+// The monomial with these exponents, none of which passes the bound.
+#[tactic(auto, using(fm_mono::proofs::Bounds::within_more))]
+fn mono(exponents: [u32; 2]) -> Mono
+    ensures { length result ≡ 2 }
+{
+    let [x, y] = exponents;
+    Mono::of(&[x.min(EXPONENT_BOUND), y.min(EXPONENT_BOUND)])
+}
+
 fn listed(alloc: Global, list: &[Listed]) -> Result<Vec<Term>, AllocError>
     ensures { IfOk result (λ v. All (IsTermOf PLANE) v.items) }
 {
     let mut terms = Vec::new(alloc);
     for t in list {
         terms.push(Term {
-            mono: Mono::of(&t.0),
+            mono: mono(t.0),
             coeff: PLANE.prime.element(t.1),
         })?;
     }
@@ -141,17 +150,17 @@ fn products_twists_and_powers(rt: HostRuntime) -> Result<(), Fail> {
 #[test]
 fn exponents_meet_the_bound(rt: HostRuntime) -> Result<(), Fail> {
     let alloc = rt.alloc();
-    let f = [([13_107, 0], 2), ([0, 0], 1)];
+    let f = [([3_355_443, 0], 2), ([0, 0], 1)];
     assert!(rt;
         shows(
             alloc,
             &twist(alloc, &f, 1)?,
-            &[([65_535, 0], 2), ([0, 0], 1)]
+            &[([16_777_215, 0], 2), ([0, 0], 1)]
         )?
     );
     assert!(rt; matches!(twist(alloc, &f, 2), Err(PolyError::Exponent)));
-    assert!(rt; product(alloc, &f, &[([52_428, 9], 1)]).is_ok());
-    let above = [([0, 0], 1), ([52_429, 0], 1)];
+    assert!(rt; product(alloc, &f, &[([13_421_772, 9], 1)]).is_ok());
+    let above = [([0, 0], 1), ([13_421_773, 0], 1)];
     assert!(rt; matches!(product(alloc, &f, &above), Err(PolyError::Exponent)));
     assert!(rt; power(alloc, &f, 5).is_ok());
     assert!(rt; matches!(power(alloc, &f, 6), Err(PolyError::Exponent)));

@@ -1,8 +1,7 @@
-// The printed form against texts written by hand, and its reader.
+// The printed form against texts written by hand.
 ghost use Rattle.std.specs.Prelude.{IfOk, [], codes, length, map, string_bytes, ◌∷◌, ◌≡◌};
 
-use crate::read_printed;
-use crate::tests::{Listed, PLANE, poly};
+use crate::tests::{Listed, poly};
 use std::alloc::{AllocError, Global};
 use std::test::Fail;
 
@@ -18,26 +17,13 @@ fn names(alloc: Global) -> Result<Vec<String>, AllocError>
     Ok(names)
 }
 
-// The text is what is printed of these terms, and is read as them.
-#[tactic(auto, using(crate::proofs::TestNames::are_test_names))]
+// The text is what is printed of these terms.
 fn is_text_of(alloc: Global, text: &[u8], list: &[Listed]) -> Result<bool, AllocError> {
     let names = names(alloc)?;
     let f = poly(alloc, list)?;
     let mut printed = Vec::from_slice(alloc, b"= ")?;
     f.text(&names, &mut printed)?;
-    match read_printed(alloc, PLANE, &names, text)? {
-        Some(g) => Ok(
-            printed.as_slice().strip_prefix(b"= ") == Some(text) && g.terms() == f.terms(),
-        ),
-        None => Ok(false),
-    }
-}
-
-#[tactic(auto, using(crate::proofs::TestNames::are_test_names))]
-fn is_refused(alloc: Global, text: &[u8]) -> Result<bool, AllocError> {
-    let names = names(alloc)?;
-    let found = read_printed(alloc, PLANE, &names, text)?;
-    Ok(found.is_none())
+    Ok(printed.as_slice().strip_prefix(b"= ") == Some(text))
 }
 
 #[test]
@@ -50,7 +36,7 @@ fn printed_forms(rt: HostRuntime) -> Result<(), Fail> {
     assert!(rt; is_text_of(alloc, b"3*x", &[([1, 0], 3)])?);
     assert!(rt; is_text_of(alloc, b"y1^2", &[([0, 2], 1)])?);
     assert!(rt; is_text_of(alloc, b"x*y1", &[([1, 1], 1)])?);
-    assert!(rt; is_text_of(alloc, b"2*x^10*y1^65535", &[([10, 65_535], 2)])?);
+    assert!(rt; is_text_of(alloc, b"2*x^10*y1^16777215", &[([10, 16_777_215], 2)])?);
     assert!(rt;
         is_text_of(
             alloc,
@@ -58,47 +44,5 @@ fn printed_forms(rt: HostRuntime) -> Result<(), Fail> {
             &[([0, 0], 1), ([2, 1], 1), ([0, 1], 3), ([1, 2], 1)]
         )?
     );
-    Ok(())
-}
-
-#[test]
-fn other_texts_are_refused(rt: HostRuntime) -> Result<(), Fail> {
-    let alloc = rt.alloc();
-    for text in [
-        "",
-        "+",
-        "00",
-        "5",
-        "01",
-        "1*x",
-        "x*1",
-        "x^1",
-        "x^0",
-        "x^01",
-        "x*x",
-        "y1*x",
-        "x+x",
-        "1+x",
-        "x+",
-        "x++y1",
-        "x-y1",
-        "-x",
-        " x",
-        "x ",
-        "(x)",
-        "2x",
-        "x2",
-        "y",
-        "y1^65536",
-        "x^",
-        "x^^2",
-        "x^2^2",
-        "0*x",
-        "x+0",
-        "0+0",
-        "99999999999999999999",
-    ] {
-        assert!(rt; is_refused(alloc, text.as_bytes())?);
-    }
     Ok(())
 }

@@ -1,3 +1,5 @@
 pub mod Ending
 pub mod Rightness
 pub mod Columns
+pub mod Exact
+pub mod Verdicts

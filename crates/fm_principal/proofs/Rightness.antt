@@ -8,25 +8,24 @@ use Rattle.fm_algebra.proofs.TwistWords.{power_is_twist}
 use Rattle.fm_poly.specs.declared.ring.Ring.{Ring}
 use Rattle.fm_poly.specs.declared.term.Term.{Term}
 use Rattle.fm_poly.specs.Polys.{PolyValue, pairs, meaning, IsCanonical}
-use Rattle.fm_poly.specs.Texts.{Bytes, AreWithinBound}
+use Rattle.fm_poly.specs.Texts.{AreWithinBound}
 use Rattle.fm_poly.proofs.KeptTerms.{zero_list}
-use Rattle.fm_vec.specs.declared.vterm.VTerm.{VTerm}
+use Rattle.fm_term.specs.declared.vterm.VTerm.{VTerm}
 use Rattle.fm_vec.specs.Vectors.{VectorValue, IsVector}
 use Rattle.fm_vec.specs.Components.{component_terms, component_meaning, placed}
-use Rattle.fm_vec.specs.Multiples.{twisted, twist_fits}
+use Rattle.fm_term.specs.Multiples.{twisted}
+use Rattle.fm_vec.specs.Multiples.{twist_fits}
 use Rattle.fm_vec.proofs.Meaning.{Value, plus, times, part, part_none, plus_nothing, twisted_part}
 use Rattle.fm_vec.proofs.PlacedTerms as columns
 use Rattle.fm_vec.proofs.Proper.{twisted_vector}
-use Rattle.fm_complete.specs.declared.stop.Stop.{Stop}
-use Rattle.fm_complete.specs.declared.stop.Stop.TheVariants.{Exponent}
-use Rattle.fm_complete.specs.Runs.{Ended, ended_with}
+use Rattle.fm_run.specs.Runs.{Halt, Exponent, Ended, ended_with}
 use Rattle.fm_complete.specs.Divisions.{DivisionValue, quotient_terms, division_of, division_run}
 use Rattle.fm_complete.specs.Reductions.{Reduced, divided}
 use Rattle.fm_complete.proofs.DivisionLaw.{division_says}
 use Rattle.fm_complete.proofs.Principal.{one_member, principal}
 use Rattle.fm_complete.proofs.Quotients.{quotients_fall}
 use Rattle.fm_complete.proofs.BoundedQuotients.{twist_bounded, quotients_bounded}
-use Rattle.fm_report.specs.PrincipalQueries.{DividesExactly, IsRight}
+use Rattle.fm_principal.specs.PrincipalQueries.{DividesExactly, IsRight}
 use Rattle.fm_principal.specs.Plans as plans
 use Rattle.fm_principal.specs.Plans.{PlanEnd, answered, stopped, column_vector, after_twist, is_zero_list, lift_run, stage_run, plan_end, after_lift, after_stage}
 
@@ -35,7 +34,7 @@ twist_went_on : {A : Type 0} → (q : ℕ) → (v : VectorValue) → (units : �
     → (go_on (plans.twisted_vector q v)).end ≡ Ok x
 twist_went_on {A} q v units go_on x e = go (twist_fits q v.terms) e
   where
-    go : (b : Bool) → ◌≡◌ {A = Result A Stop} (if b then go_on (plans.twisted_vector q v) else record { end = Err Exponent; left = units }).end (Ok x)
+    go : (b : Bool) → ◌≡◌ {A = Result A Halt} (if b then go_on (plans.twisted_vector q v) else record { end = Err Exponent; left = units }).end (Ok x)
         → (go_on (plans.twisted_vector q v)).end ≡ Ok x
     go true e = e
     go false e = cc
@@ -44,19 +43,19 @@ twist_fitted : {A : Type 0} → (q : ℕ) → (v : VectorValue) → (units : ℕ
     → twist_fits q v.terms ≡ true
 twist_fitted {A} q v units go_on x e = go (twist_fits q v.terms) e
   where
-    go : (b : Bool) → ◌≡◌ {A = Result A Stop} (if b then go_on (plans.twisted_vector q v) else record { end = Err Exponent; left = units }).end (Ok x) → b ≡ true
+    go : (b : Bool) → ◌≡◌ {A = Result A Halt} (if b then go_on (plans.twisted_vector q v) else record { end = Err Exponent; left = units }).end (Ok x) → b ≡ true
     go true e = refl
     go false e = cc
 
 -- the head reductions of a division that ends
-reductions_of : (r : Ring) (rows count : ℕ) (run : Ended Reduced) (d : DivisionValue) → ◌≡◌ {A = Result DivisionValue Stop} (ended_with (division_of r rows count) run).end (Ok d)
+reductions_of : (r : Ring) (rows count : ℕ) (run : Ended Reduced) (d : DivisionValue) → ◌≡◌ {A = Result DivisionValue Halt} (ended_with (division_of r rows count) run).end (Ok d)
     → (x : Reduced) × (run ≡ record { end = Ok x; left = run.left }) × (division_of r rows count x ≡ d)
 reductions_of r rows count run d e = go run.end refl e
   where
-    value : {a b : DivisionValue} → ◌≡◌ {A = Result DivisionValue Stop} (Ok a) (Ok b) → a ≡ b
+    value : {a b : DivisionValue} → ◌≡◌ {A = Result DivisionValue Halt} (Ok a) (Ok b) → a ≡ b
     value e = cc
 
-    go : (s : Result Reduced Stop) → run.end ≡ s → ◌≡◌ {A = Result DivisionValue Stop} (ended_with (division_of r rows count) (record { end = s; left = run.left })).end (Ok d)
+    go : (s : Result Reduced Halt) → run.end ≡ s → ◌≡◌ {A = Result DivisionValue Halt} (ended_with (division_of r rows count) (record { end = s; left = run.left })).end (Ok d)
         → (x : Reduced) × (run ≡ record { end = Ok x; left = run.left }) × (division_of r rows count x ≡ d)
     go (Ok x) is e = (x, (λ i. record { end = is i; left = run.left }), value e)
     go (Err s) is e = cc
@@ -83,12 +82,12 @@ are_run f z e units theta b ends = go (lift_run f units).end refl ends
     answers : {xs ys : List PolyValue} {a b : Bool} → answered xs a ≡ answered ys b → a ≡ b
     answers e = cc
 
-    tested : (d : DivisionValue) → (lift_run f units).end ≡ Ok d → (s : Result DivisionValue Stop) → (stage_run f e z (lift_run f units).left).end ≡ s
+    tested : (d : DivisionValue) → (lift_run f units).end ≡ Ok d → (s : Result DivisionValue Halt) → (stage_run f e z (lift_run f units).left).end ≡ s
         → after_stage d.quotients s ≡ answered theta b → AreRun f z e units theta b
     tested d lifts (Ok t) tests ends = record { lifted = d; lift_is = lifts; tested = t; test_is = tests; theta_is = thetas ends; answer_is = answers ends }
     tested d lifts (Err s) tests ends = cc
 
-    go : (s : Result DivisionValue Stop) → (lift_run f units).end ≡ s → after_lift f e z s (lift_run f units).left ≡ answered theta b → AreRun f z e units theta b
+    go : (s : Result DivisionValue Halt) → (lift_run f units).end ≡ s → after_lift f e z s (lift_run f units).left ≡ answered theta b → AreRun f z e units theta b
     go (Ok d) lifts ends = tested d lifts (stage_run f e z (lift_run f units).left).end refl ends
     go (Err s) lifts ends = cc
 
@@ -265,9 +264,9 @@ module _ (r : Ring) where
             (rest_is left stage_divided.left (twisted (prime_value r.prime ^ e) (single f.terms)) (single z.terms) stage_reductions.0 (some_twisted (prime_value r.prime ^ e) f.terms some)
             (twist_vector e f.terms f_canonical) (single_vector z.terms z_canonical) stage_reductions.1)
 
-        is_right : (name : Bytes) → IsRight r.prime r.vars (record { ideal = name; f = pairs f.terms; stage = e; z = pairs z.terms; theta = pairs lift_terms; divides = b })
+        is_right : IsRight r.prime r.vars (record { f = pairs f.terms; stage = e; z = pairs z.terms; theta = pairs lift_terms; divides = b })
         unfolding meaning
-        is_right name = record {
+        is_right = record {
           nonzero = λ none. some ((zero_list r f.terms f_canonical).1 none);
           lift = lift_is_right;
           answer = answer_is_right;
@@ -290,9 +289,9 @@ pub theta_is_bounded : (r : Ring) (f z t : PolyValue) (e units : ℕ) (b : Bool)
 theta_is_bounded r f z t e units b ends =
     subst (λ ts. AreWithinBound (pairs ts)) (sym (same_terms (theta_entry r f z e units (t ∷ []) b ends))) (theta_bounded r f z e units (t ∷ []) b ends)
 
-pub plan_is_right : (r : Ring) (f z t : PolyValue) (e units : ℕ) (name : Bytes) (b : Bool) → IsCanonical r f.terms → IsCanonical r z.terms → (f.terms ≢ [])
+pub plan_is_right : (r : Ring) (f z t : PolyValue) (e units : ℕ) (b : Bool) → IsCanonical r f.terms → IsCanonical r z.terms → (f.terms ≢ [])
     → plan_end (column_vector r (f ∷ [])) e (column_vector r (z ∷ [])) units ≡ answered (t ∷ []) b
-    → IsRight r.prime r.vars (record { ideal = name; f = pairs f.terms; stage = e; z = pairs z.terms; theta = pairs t.terms; divides = b })
-plan_is_right r f z t e units name b cf cz some ends =
-    subst (λ ts. IsRight r.prime r.vars (record { ideal = name; f = pairs f.terms; stage = e; z = pairs z.terms; theta = pairs ts; divides = b }))
-    (sym (same_terms (theta_entry r f z e units (t ∷ []) b ends))) (is_right r f z e units (t ∷ []) b ends cf cz some name)
+    → IsRight r.prime r.vars (record { f = pairs f.terms; stage = e; z = pairs z.terms; theta = pairs t.terms; divides = b })
+plan_is_right r f z t e units b cf cz some ends =
+    subst (λ ts. IsRight r.prime r.vars (record { f = pairs f.terms; stage = e; z = pairs z.terms; theta = pairs ts; divides = b }))
+    (sym (same_terms (theta_entry r f z e units (t ∷ []) b ends))) (is_right r f z e units (t ∷ []) b ends cf cz some)

@@ -1,2 +1,5 @@
+pub mod PrincipalQueries
 pub mod Plans
 pub mod Ends
+pub mod Outcomes
+pub mod OverVariables

@@ -4,13 +4,13 @@ use Rattle.std.specs.Prelude.{ℕ, ◌^◌, Bool, true, false, if◌then◌else�
 use Rattle.fm_gfp.specs.Primes.{prime_value}
 use Rattle.fm_poly.specs.declared.ring.Ring.{Ring}
 use Rattle.fm_poly.specs.Polys.{PolyValue}
-use Rattle.fm_vec.specs.declared.vterm.VTerm.{VTerm}
+use Rattle.fm_term.specs.declared.vterm.VTerm.{VTerm}
 use Rattle.fm_vec.specs.Vectors.{VectorValue}
 use Rattle.fm_vec.specs.Components.{column_terms}
-use Rattle.fm_vec.specs.Multiples.{twisted, twist_fits}
-use Rattle.fm_complete.specs.declared.stop.Stop.{Stop}
-use Rattle.fm_complete.specs.declared.stop.Stop.TheVariants.{Exponent}
-use Rattle.fm_complete.specs.Runs.{Ended}
+use Rattle.fm_term.specs.Multiples.{twisted}
+use Rattle.fm_vec.specs.Multiples.{twist_fits}
+use Rattle.fm_run.specs.declared.stop.Stop.{Stop}
+use Rattle.fm_run.specs.Runs.{Halt, Exponent, Ended, stop_of}
 use Rattle.fm_complete.specs.Divisions.{DivisionValue, division_run}
 use Rattle.fm_principal.specs.declared.task.Task.{Task}
 use Rattle.fm_principal.specs.declared.task.Task.TheVariants.{Lift, Stage}
@@ -45,14 +45,14 @@ abbrev pub is_zero_list : List VTerm → Bool
 is_zero_list [] = true
 is_zero_list (t ∷ ts) = false
 
-abbrev pub after_stage : List PolyValue → Result DivisionValue Stop → PlanEnd
+abbrev pub after_stage : List PolyValue → Result DivisionValue Halt → PlanEnd
 after_stage theta (Ok d) = answered theta (is_zero_list d.rest.terms)
-after_stage theta (Err stop) = stopped Stage stop
+after_stage theta (Err halt) = stopped Stage (stop_of halt)
 
 -- the plan after `lift 1`, with the units that are left
-abbrev pub after_lift : VectorValue → ℕ → VectorValue → Result DivisionValue Stop → ℕ → PlanEnd
+abbrev pub after_lift : VectorValue → ℕ → VectorValue → Result DivisionValue Halt → ℕ → PlanEnd
 after_lift f e z (Ok d) units = after_stage d.quotients (stage_run f e z units).end
-after_lift f e z (Err stop) units = stopped Lift stop
+after_lift f e z (Err halt) units = stopped Lift (stop_of halt)
 
 -- the end of the plan for the class (e, z) of the ideal (f)
 unfoldable pub plan_end : VectorValue → ℕ → VectorValue → ℕ → PlanEnd

@@ -4,14 +4,15 @@ ghost use Rattle.fm_gfp.specs.Primes.{prime_value};
 ghost use Rattle.fm_vec.specs.Multiples.{twist_fits};
 ghost use Rattle.fm_vec.specs.Components.{AreOver};
 ghost use Rattle.fm_complete.specs.Divisions.{division_value};
-ghost use Rattle.fm_complete.specs.Runs.{Follows};
+ghost use Rattle.fm_run.specs.Runs.{Follows};
 ghost use Rattle.fm_principal.specs.Ends.{end_value};
 ghost use Rattle.fm_principal.specs.Plans as plans;
 ghost use Rattle.fm_principal.specs.Plans.{twisted_vector, column_vector, lift_run, plan_end, stage_run};
 
 use crate::{ClassEnd, Task};
-use fm_complete::{Division, Stop, Work, divide};
+use fm_complete::{Division, divide};
 use fm_poly::{Poly, PolyError, Ring};
+use fm_run::{Stop, Work};
 use fm_vec::Vector;
 use std::alloc::{AllocError, Global};
 
@@ -63,9 +64,12 @@ fn stopped(task: Task, stop: Stop) -> Result<ClassEnd, AllocError>
 // `lift 1`
 fn lift(alloc: Global, f: &Vector, work: &mut Work) -> Result<Division, Stop>
     requires { f.now.terms ≢ [] }
-    ensures { Follows division_value result work.new (lift_run f.now work.old) }
+    ensures { Follows division_value result work.old work.new (lift_run f.now work.old) }
 {
-    let twisted = twist(alloc, f, 1)?;
+    let twisted = match twist(alloc, f, 1) {
+        Ok(twisted) => twisted,
+        Err(stop) => return Err(stop),
+    };
     let members = [f.copy(alloc)?];
     divide(alloc, &members, &twisted, work)
 }
@@ -75,9 +79,13 @@ fn test(alloc: Global, f: &Vector, stage: u8, z: &Vector, work: &mut Work) -> Re
     requires nonzero { f.now.terms ≢ [] }
     requires ring { f.now.ring ≡ z.now.ring }
     requires rows { f.now.rows ≡ z.now.rows }
-    ensures { Follows division_value result work.new (stage_run f.now stage z.now work.old) }
+    ensures { Follows division_value result work.old work.new (stage_run f.now stage z.now work.old) }
 {
-    let members = [twist(alloc, f, stage)?];
+    let twisted = match twist(alloc, f, stage) {
+        Ok(twisted) => twisted,
+        Err(stop) => return Err(stop),
+    };
+    let members = [twisted];
     divide(alloc, &members, z, work)
 }
 

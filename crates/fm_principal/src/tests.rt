@@ -1,17 +1,17 @@
 // Classes against the answers of an independent program, and against ends found by hand.
-ghost use Rattle.std.specs.Prelude.{All, IfOk, ◌≡◌};
+ghost use Rattle.std.specs.Prelude.{All, IfOk, length, ◌≡◌};
 ghost use Rattle.fm_poly.specs.Polys.{IsTermOf};
 
 use crate::{ClassEnd, Task, decide_class};
-use fm_complete::Stop;
 use fm_gfp::Prime;
-use fm_mono::{Mono, Order};
+use fm_mono::{EXPONENT_BOUND, Mono, Order};
 use fm_poly::{Poly, Ring, Term};
+use fm_run::Stop;
 use std::alloc::{AllocError, Global};
 use std::test::Fail;
 
 // Terms in x and y: both exponents and the coefficient.
-type Listed = ([u16; 2], u64);
+type Listed = ([u32; 2], u64);
 
 type List = &'static [Listed];
 
@@ -50,7 +50,7 @@ const FOURTH: List = &[
     ([0, 4], 1),
 ];
 
-const STEEP: List = &[([1, 0], 1), ([0, 1000], 1)];
+const STEEP: List = &[([1, 0], 1), ([0, 256_000], 1)];
 
 const NORMAL_CROSSING: Classes = Classes {
     prime: Prime::Three,
@@ -73,10 +73,10 @@ const NORMAL_CROSSING: Classes = Classes {
             9,
             End::Answered(SQUARE, false),
         ),
-        (10, &[([0, 0], 1)], 3, End::Answered(SQUARE, false)),
-        (11, &[([0, 0], 1)], 3, PAST_THE_BOUND),
-        (11, &[], 2, PAST_THE_BOUND),
-        (11, &[], 1, IN_LIFT),
+        (15, &[([0, 0], 1)], 3, End::Answered(SQUARE, false)),
+        (16, &[([0, 0], 1)], 3, PAST_THE_BOUND),
+        (16, &[], 2, PAST_THE_BOUND),
+        (16, &[], 1, IN_LIFT),
     ],
 };
 
@@ -134,13 +134,22 @@ const UNIT_IDEAL: Classes = Classes {
     ],
 };
 
-// The bound is 65535, and 3 * 21846 is greater.
+// The bound is 16777215, and 3 * 5592406 is greater.
 const HIGH_POWER: Classes = Classes {
     prime: Prime::Three,
     order: Order::Grevlex,
-    generator: &[([21_846, 0], 1)],
+    generator: &[([5_592_406, 0], 1)],
     rows: &[(0, &[], 0, End::Stopped(Task::Lift, Stop::Exponent))],
 };
+
+// The monomial with these exponents, none of which passes the bound.
+#[tactic(auto, using(fm_mono::proofs::Bounds::within_more))]
+fn mono(exponents: [u32; 2]) -> Mono
+    ensures { length result ≡ 2 }
+{
+    let [x, y] = exponents;
+    Mono::of(&[x.min(EXPONENT_BOUND), y.min(EXPONENT_BOUND)])
+}
 
 fn listed(alloc: Global, ring: Ring, list: &[Listed]) -> Result<Vec<Term>, AllocError>
     requires { ring.vars ≡ 2 }
@@ -149,7 +158,7 @@ fn listed(alloc: Global, ring: Ring, list: &[Listed]) -> Result<Vec<Term>, Alloc
     let mut terms = Vec::new(alloc);
     for t in list {
         terms.push(Term {
-            mono: Mono::of(&t.0),
+            mono: mono(t.0),
             coeff: ring.prime.element(t.1),
         })?;
     }

@@ -2,8 +2,8 @@ pub mod FactorCuts
 pub mod TermCuts
 pub mod TermSums
 pub mod AsciiNames
-pub mod PrimeList
 pub mod FirstFaults
+pub mod WrittenExponents
 pub mod NamesRead
 pub mod NamedStatements
 pub mod SoundPolynomials
@@ -12,3 +12,4 @@ pub mod SoundProblems
 pub mod OneReading
 pub mod FurtherLines
 pub mod PrintedNames
+pub mod SmallExponents

@@ -22,7 +22,8 @@ use Rattle.fm_problem.specs.declared.query.Query.{Query}
 use Rattle.fm_problem.specs.declared.query.Query as queries
 use Rattle.fm_problem.specs.Polynomials.{Rules, polynomial_in}
 use Rattle.fm_problem.specs.Statements.{Statement, RingLine, OrderLine, IdealLine, ModuleLine, ClassLine, InvertLine, MapLine, MemberLine, statement_of}
-use Rattle.fm_problem.specs.Problems.{prime_of, plus_name, bare, ring_of, order_in, with_order, rules_of, Generators, unless_empty, unless_zero, plus_generator, generators_in, ideal_names, plus_ideal, with_ideal, degree_in, ideal_in, stage_in, plus_entry, vector_in, module_query, asked, is_principal, is_built, query_in, plus_query, with_query, with_line, at_line, plus_line, after_second, after_ring, from_lines, problem_of, query_of_statement, query_of}
+use Rattle.fm_gfp.specs.Primes.{prime_of}
+use Rattle.fm_problem.specs.Problems.{plus_name, bare, ring_of, order_in, with_order, rules_of, Generators, unless_empty, unless_zero, plus_generator, generators_in, ideal_names, plus_ideal, with_ideal, degree_in, ideal_in, stage_in, plus_entry, vector_in, module_query, asked, is_principal, is_built, query_in, plus_query, with_query, with_line, at_line, plus_line, after_second, after_ring, from_lines, problem_of, query_of_statement, query_of}
 use Rattle.fm_problem.specs.Sound.{IsPolynomialOf, IsShortName, AreApart, IsIdealOf, IsQueryOf, IsProblem}
 use Rattle.fm_problem.specs.Steps.{◌>>=◌, steps, or_fault, place}
 use Rattle.fm_problem.proofs.AsciiNames.{both}

@@ -8,8 +8,6 @@ use Rattle.std.specs.Ordering.{ordering_reverse}
 use Rattle.std.specs.declared.cmp.Ordering.{Ordering}
 use Rattle.std.specs.declared.cmp.Ordering.TheVariants.{Less, Equal, Greater}
 use Rattle.fm_gfp.specs.Primes.{prime_value}
-use Rattle.fm_gfp.specs.declared.prime.Prime.{Prime}
-use Rattle.fm_gfp.specs.declared.prime.Prime.TheVariants.{Two, Three, Five, Seven, Eleven, Thirteen}
 use Rattle.fm_mono.specs.Orders.{monomial_cmp}
 use Rattle.fm_mono.proofs.OrderLaws.{monomial_cmp_exact, monomial_cmp_flip}
 use Rattle.fm_algebra.specs.Gf.{prime_positive}
@@ -142,12 +140,3 @@ sum_is r f ts e c m w i = record {
   ring = e i;
   terms = lists_unique r f.terms (sum_of_terms r ts) (let P : Ring → Type 0 = λ q. IsCanonical q f.terms in subst P e c) (sum_canonical r ts w) (m ∙ sym (sum_means r ts)) i;
 }
-
--- p is at least 2
-pub one_residue : (p : Prime) → 1 % prime_value p ≡ 1
-one_residue Two = refl
-one_residue Three = refl
-one_residue Five = refl
-one_residue Seven = refl
-one_residue Eleven = refl
-one_residue Thirteen = refl

@@ -1,7 +1,7 @@
 -- The polynomials of certificates: no blanks, and form before exponents.
 use Rattle.std.specs.Prelude.{◌^◌, Bool, false, ◌&&◌, not, if◌then◌else◌, nat_lt, List, Option, Some, None, is_some, Result, Ok, Err}
 use Rattle.std.specs.List.{list_all, list_any}
-use Rattle.fm_mono.specs.declared.exponent.TheConstants.{EXPONENT_BOUND}
+use Rattle.fm_mono.specs.Bounded.{exponent_bound}
 use Rattle.fm_poly.specs.Polys.{PolyValue}
 use Rattle.fm_poly.specs.declared.ring.Ring.{Ring}
 use Rattle.fm_poly.specs.declared.term.Term.{Term}
@@ -39,4 +39,4 @@ within_bound r (Err k) = Err Exponent
 -- the polynomial that a text of a certificate spells
 unfoldable pub certificate_polynomial : Ring → List Bytes → Bytes → Result PolyValue PolyFault
 certificate_polynomial r names text =
-    if is_sound names text then within_bound r (written_terms (record { ring = r; names = names; bound = EXPONENT_BOUND }) text) else Err Form
+    if is_sound names text then within_bound r (written_terms (record { ring = r; names = names; bound = exponent_bound }) text) else Err Form

@@ -1,7 +1,7 @@
 -- What a problem text says, and its first fault: line by line, form before all else on a line, then from left to right.
 use Rattle.std.specs.Prelude.{◌≡◌, ◌≤◌, ℕ, ◌+◌, Bool, false, ◌&&◌, if◌then◌else◌, nat_eq, nat_le, nat_lt, List, [], ◌∷◌, ◌++◌, map, length, slice_get, Option, Some, None, is_some, Result, Ok, Err}
 use Rattle.fm_gfp.specs.declared.prime.Prime.{Prime}
-use Rattle.fm_gfp.specs.declared.prime.Prime.TheVariants.{Two, Three, Five, Seven, Eleven, Thirteen}
+use Rattle.fm_gfp.specs.Primes.{prime_of}
 use Rattle.fm_mono.specs.declared.order.Order.{Order}
 use Rattle.fm_mono.specs.declared.order.Order.TheVariants.{Grevlex}
 use Rattle.fm_poly.specs.Polys.{PolyValue}
@@ -30,16 +30,6 @@ pub record IsBounded (q : Problem) : Type 0 where
   pub few_ideals : length q.ideals ≤ IDEALS
 
 -- ---- the ring
-
--- the prime of the list that is this number
-abbrev pub prime_of : ℕ → Option Prime
-prime_of n =
-    if nat_eq n 2 then Some Two
-    else (if nat_eq n 3 then Some Three
-    else (if nat_eq n 5 then Some Five
-    else (if nat_eq n 7 then Some Seven
-    else (if nat_eq n 11 then Some Eleven
-    else (if nat_eq n 13 then Some Thirteen else None)))))
 
 -- one more variable: Repeated comes before Limit
 abbrev pub plus_name : List Bytes → Bytes → Result (List Bytes) FaultKind

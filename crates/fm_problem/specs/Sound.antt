@@ -1,10 +1,12 @@
 -- Sound problems: what holds of every problem that is read.
-use Rattle.std.specs.Prelude.{◌≡◌, ◌≢◌, ◌≤◌, ◌<◌, true, List, [], ◌∷◌, All, length}
+use Rattle.std.specs.Prelude.{◌≡◌, ◌≢◌, ◌≤◌, ◌<◌, ℕ, Bool, true, nat_le, List, [], ◌∷◌, All, length}
+use Rattle.std.specs.List.{list_all}
+use Rattle.fm_poly.specs.declared.term.Term.{Term}
 use Rattle.fm_poly.specs.declared.ring.Ring.{Ring}
 use Rattle.fm_poly.specs.Polys.{PolyValue, IsCanonical}
 use Rattle.fm_words.specs.Parts.{Bytes}
 use Rattle.fm_words.specs.Words.{is_name}
-use Rattle.fm_problem.specs.declared.limits.TheConstants.{NAME_BYTES, GENERATORS, QUERIES, STAGE}
+use Rattle.fm_problem.specs.declared.limits.TheConstants.{NAME_BYTES, GENERATORS, QUERIES, STAGE, WRITTEN_EXPONENT}
 use Rattle.fm_problem.specs.declared.problem.Problem.{Problem}
 use Rattle.fm_problem.specs.declared.ideal.Ideal.{Ideal}
 use Rattle.fm_problem.specs.declared.query.Query.{Query}
@@ -60,3 +62,40 @@ pub record IsProblem (q : Problem) : Type 0 where
   pub few_queries : length q.queries ≤ QUERIES
   pub asked : All (IsQueryOf q) q.queries
   pub built : All (λ z. is_built q.ideals z ≡ true) q.queries
+
+-- ---- exponents
+-- each exponent is one that can be written
+abbrev pub are_small : List ℕ → Bool
+are_small a = list_all (λ e. nat_le e WRITTEN_EXPONENT) a
+
+abbrev pub AreSmallTerms : List Term → Type 0
+AreSmallTerms [] = Unit {0}
+AreSmallTerms (t ∷ ts) = (are_small t.mono ≡ true) × AreSmallTerms ts
+
+abbrev pub AreSmall : List PolyValue → Type 0
+AreSmall [] = Unit {0}
+AreSmall (f ∷ fs) = AreSmallTerms f.terms × AreSmall fs
+
+abbrev pub AreSmallIdeals : List Ideal → Type 0
+AreSmallIdeals [] = Unit {0}
+AreSmallIdeals (i ∷ is) = AreSmall i.generators × AreSmallIdeals is
+
+abbrev pub IsSmallQuery : Query → Type 0
+IsSmallQuery (queries.TheVariants.Class i k e z) = AreSmall z
+IsSmallQuery (queries.TheVariants.Zero i k) = Unit {0}
+IsSmallQuery (queries.TheVariants.Root i k) = Unit {0}
+IsSmallQuery (queries.TheVariants.Invert i k f) = AreSmallTerms f.terms
+IsSmallQuery (queries.TheVariants.Support i k) = Unit {0}
+IsSmallQuery (queries.TheVariants.Map i k j) = Unit {0}
+IsSmallQuery (queries.TheVariants.Member k f) = AreSmallTerms f.terms
+IsSmallQuery (queries.TheVariants.Resolution i k) = Unit {0}
+IsSmallQuery (queries.TheVariants.ExtOf i k) = Unit {0}
+
+abbrev pub AreSmallQueries : List Query → Type 0
+AreSmallQueries [] = Unit {0}
+AreSmallQueries (z ∷ zs) = IsSmallQuery z × AreSmallQueries zs
+
+-- the polynomials of a problem have exponents that can be written
+pub record HasSmallExponents (q : Problem) : Type 0 where
+  pub ideals : AreSmallIdeals q.ideals
+  pub queries : AreSmallQueries q.queries

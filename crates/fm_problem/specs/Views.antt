@@ -3,7 +3,7 @@ use Rattle.std.specs.Prelude.{◌≡◌, ◌≤◌, length, ℕ, Result, Ok, Err
 use Rattle.fm_words.specs.declared.mark.Mark.TheVariants.{Comma}
 use Rattle.fm_words.specs.Parts.{parts}
 use Rattle.fm_words.specs.Words.{words, value}
-use Rattle.fm_mono.specs.declared.exponent.TheConstants.{EXPONENT_BOUND}
+use Rattle.fm_mono.specs.Bounded.{exponent_bound}
 use Rattle.fm_problem.specs.declared.fault_kind.FaultKind.{FaultKind}
 use Rattle.fm_problem.specs.declared.line_error.LineError.{LineError}
 use Rattle.fm_problem.specs.declared.line_error.LineError.TheVariants.{Fault, Memory}
@@ -42,7 +42,7 @@ pub record FitsRules (r : Rules) : Type 0 where
   pub named : length r.names.now ≡ r.ring.vars
   pub some : 1 ≤ r.ring.vars
   pub few : r.ring.vars ≤ 8
-  pub bounded : r.bound ≤ EXPONENT_BOUND
+  pub bounded : r.bound ≤ exponent_bound
 
 abbrev pub statement_view : StatementText → statements.Statement
 statement_view (texts.TheVariants.Ring digits names) = statements.RingLine (value digits.now) (words names.now)

@@ -97,7 +97,7 @@ pub fn read_poly(
     let rules = Rules {
         ring,
         names,
-        bound: u32::from(EXPONENT_BOUND),
+        bound: EXPONENT_BOUND,
     };
     let terms = match written_terms(alloc, &rules, text) {
         Ok(terms) => terms,

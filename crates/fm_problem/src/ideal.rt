@@ -1,6 +1,7 @@
 // Ideals of a problem.
-use crate::{Items, Name};
+use crate::Name;
 use fm_poly::Poly;
+use sqlite_items::Items;
 
 /// An ideal with its name and its generators, of which none is zero.
 #[derive(Drop)]

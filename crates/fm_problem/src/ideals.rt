@@ -12,9 +12,10 @@ use crate::names::name_of;
 use crate::places::ideal_place;
 use crate::polynomials::read_polynomial;
 use crate::rules::Rules;
-use crate::{FaultKind, Ideal, Items, Name, Problem};
+use crate::{FaultKind, Ideal, Name, Problem};
 use fm_poly::Poly;
 use fm_words::{Mark, first_part};
+use sqlite_items::Items;
 use std::alloc::{AllocError, Global};
 
 /// What the polynomials of a problem's lines are read by.

@@ -8,7 +8,7 @@ ghost use Rattle.fm_words.specs.Lines.{end_of};
 ghost use Rattle.fm_words.specs.Parts.{Bytes};
 ghost use Rattle.fm_problem.specs.Faults.{Fault};
 ghost use Rattle.fm_problem.specs.Problems.{problem_of, query_of};
-ghost use Rattle.fm_problem.specs.Sound.{IsProblem, IsQueryOf};
+ghost use Rattle.fm_problem.specs.Sound.{HasSmallExponents, IsProblem, IsQueryOf};
 ghost use Rattle.fm_problem.specs.SumOfTerms.{sum_of_terms};
 ghost use Rattle.fm_problem.specs.declared.problem.Problem.{Problem};
 ghost use Rattle.fm_problem.specs.declared.query.Query.{Query};
@@ -41,4 +41,9 @@ pub fn problems_of_texts_are_sound()
 pub fn sums_of_written_terms()
     ensures falling { (r : Ring) (ts : List Term) → All (IsTermOf r) ts → IsCanonical r (sum_of_terms r ts) }
     ensures meaning { (r : Ring) (ts : List Term) → meaning r (sum_of_terms r ts) ≡ meaning r ts }
+{}
+
+/// The exponents of a problem that a text says are those that can be written: at most 1,000.
+pub fn exponents_of_problems_are_small()
+    ensures { (text : Bytes) (q : Problem) → problem_of text ≡ Ok q → HasSmallExponents q }
 {}

@@ -1,38 +1,37 @@
-// Problem texts: the grammar, the first fault, and the reader.
+// Problem texts: the grammar, the first fault, and the reader. Reading takes a few steps for each byte, and memory for what stands in the
+// text.
 #![tactic(auto)]
 
-pub mod certificates;
-pub mod factors;
-pub mod fault_kind;
-pub mod forms;
-pub mod ideal;
-pub mod ideals;
-pub mod items;
-pub mod keyword;
+mod certificates;
+mod factors;
+mod fault_kind;
+mod forms;
+mod ideal;
+mod ideals;
+mod keyword;
 pub mod laws;
-pub mod limits;
-pub mod line_error;
-pub mod name;
-pub mod names;
-pub mod places;
-pub mod poly_fault;
-pub mod polynomials;
-pub mod problem;
-pub mod problem_error;
-pub mod queries;
-pub mod query;
-pub mod reading;
-pub mod rules;
-pub mod sign;
-pub mod statements;
-pub mod terms;
+mod limits;
+mod line_error;
+mod name;
+mod names;
+mod places;
+mod poly_fault;
+mod polynomials;
+mod problem;
+mod problem_error;
+mod queries;
+mod query;
+mod reading;
+mod rules;
+mod sign;
+mod statements;
+mod terms;
 #[cfg(test)]
 mod tests;
 
 pub use certificates::read_poly;
 pub use fault_kind::FaultKind;
 pub use ideal::Ideal;
-pub use items::Items;
 pub use name::{Name, Names};
 pub use poly_fault::PolyFault;
 pub use problem::Problem;

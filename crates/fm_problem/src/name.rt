@@ -30,6 +30,12 @@ impl Name {
     {
         self.text.as_str()
     }
+
+    pub fn into_string(self) -> String
+        ensures { string_bytes result ≡ self }
+    {
+        self.text
+    }
 }
 
 /// A list of names. Contracts see the bytes of each.
@@ -53,6 +59,18 @@ impl Names {
         Names {
             items: Vec::new(alloc),
         }
+    }
+
+    pub fn from_vec(items: Vec<String>) -> Names
+        ensures { result ≡ map string_bytes items.items }
+    {
+        Names { items }
+    }
+
+    pub fn into_vec(self) -> Vec<String>
+        ensures { map string_bytes result.items ≡ self }
+    {
+        self.items
     }
 
     pub fn as_slice(&self) -> &[String]

@@ -1,7 +1,7 @@
 // What polynomials spell.
 ghost use Rattle.std.specs.Prelude.{◌≡◌, ◌<◌, ◌≤◌, All, IfOk, length, map, replicate, string_bytes};
 ghost use Rattle.fm_gfp.specs.Primes.{prime_value};
-ghost use Rattle.fm_mono.specs.declared.exponent.TheConstants.{EXPONENT_BOUND};
+ghost use Rattle.fm_mono.specs.Bounded.{exponent_bound};
 ghost use Rattle.fm_poly.specs.Polys.{IsTermOf};
 ghost use Rattle.fm_problem.specs.Factors.{factor_of};
 ghost use Rattle.fm_problem.specs.Polynomials.{polynomial_in, raised, signed_coefficient, signed_term, times_factor as times_factor_of, times_factors as times_factors_of, unsigned_term as unsigned_term_of, written_terms as written_terms_of};
@@ -18,7 +18,7 @@ use crate::rules::Rules;
 use crate::sign::Sign;
 use crate::terms::{all_terms, first_term};
 use fm_gfp::Gf;
-use fm_mono::{Exponent, Mono};
+use fm_mono::Mono;
 use fm_poly::{Poly, Ring, Term};
 use fm_words::{Mark, first_part, number};
 use std::alloc::{AllocError, Global};
@@ -28,10 +28,10 @@ fn raise(
     rules: &Rules<'_>,
     name: &[u8],
     digits: &[u8],
-    exponents: &mut [Exponent],
+    exponents: &mut [u32],
 ) -> Result<(), FaultKind>
     requires fits { length exponents.old ≡ length rules.now.names.now }
-    requires bounded { rules.now.bound ≤ EXPONENT_BOUND }
+    requires bounded { rules.now.bound ≤ exponent_bound }
     ensures { Is (λ _. exponents.new) result (raised rules.now.bound exponents.old (value digits.now) (place 0 name.now (map string_bytes rules.now.names.now))) }
 {
     let Some(k) = variable_place(rules.names, name) else {
@@ -46,7 +46,7 @@ fn raise(
     if sum > u64::from(rules.bound) {
         return Err(FaultKind::Limit);
     }
-    exponents[k] = sum as Exponent;
+    exponents[k] = sum as u32;
     Ok(())
 }
 
@@ -55,10 +55,10 @@ fn times_factor(
     rules: &Rules<'_>,
     text: &[u8],
     coeff: Gf,
-    exponents: &mut [Exponent],
+    exponents: &mut [u32],
 ) -> Result<Gf, FaultKind>
     requires fits { length exponents.old ≡ length rules.now.names.now }
-    requires bounded { rules.now.bound ≤ EXPONENT_BOUND }
+    requires bounded { rules.now.bound ≤ exponent_bound }
     requires below { coeff < prime_value rules.now.ring.prime }
     ensures gives { Is (λ c. record { mono = exponents.new; coeff = c }) result
         (times_factor_of (rules_view rules.now) (record { mono = exponents.old; coeff = coeff }) (factor_of text.now)) }
@@ -89,10 +89,10 @@ fn times_factors(
     rules: &Rules<'_>,
     text: &[u8],
     coeff: Gf,
-    exponents: &mut [Exponent],
+    exponents: &mut [u32],
 ) -> Result<Gf, FaultKind>
     requires fits { length exponents.old ≡ length rules.now.names.now }
-    requires bounded { rules.now.bound ≤ EXPONENT_BOUND }
+    requires bounded { rules.now.bound ≤ exponent_bound }
     requires below { coeff < prime_value rules.now.ring.prime }
     ensures gives { Is (λ c. record { mono = exponents.new; coeff = c }) result
         (times_factors_of (rules_view rules.now) (record { mono = exponents.old; coeff = coeff }) text.now) }
@@ -122,14 +122,10 @@ fn with_sign(rules: &Rules<'_>, sign: Sign, coeff: Gf) -> Gf
 }
 
 // The product of the factors of a term, whose exponents are zeros to begin with.
-#[tactic(auto, using(crate::proofs::TermSums::one_residue))]
-fn unsigned_term(
-    rules: &Rules<'_>,
-    text: &[u8],
-    exponents: &mut [Exponent],
-) -> Result<Gf, FaultKind>
+#[tactic(auto, using(fm_gfp::proofs::Residues::one_residue))]
+fn unsigned_term(rules: &Rules<'_>, text: &[u8], exponents: &mut [u32]) -> Result<Gf, FaultKind>
     requires zeros { exponents.old ≡ replicate (length (map string_bytes rules.now.names.now)) 0 }
-    requires bounded { rules.now.bound ≤ EXPONENT_BOUND }
+    requires bounded { rules.now.bound ≤ exponent_bound }
     ensures gives { Is (λ c. record { mono = exponents.new; coeff = c }) result (unsigned_term_of (rules_view rules.now) text.now) }
     ensures below { IfOk result (λ c. c < prime_value rules.now.ring.prime) }
 {

@@ -1,6 +1,7 @@
 // Problems.
-use crate::{Ideal, Items, Names, Query};
+use crate::{Ideal, Names, Query};
 use fm_poly::Ring;
+use sqlite_items::Items;
 
 /// A problem: a ring with the names of its variables, ideals, and queries on them.
 #[derive(Drop)]

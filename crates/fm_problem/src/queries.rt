@@ -13,9 +13,10 @@ use crate::places::ideal_place;
 use crate::polynomials::read_polynomial;
 use crate::rules::Rules;
 use crate::statements::StatementText;
-use crate::{FaultKind, Ideal, Items, Problem, Query};
+use crate::{FaultKind, Ideal, Problem, Query};
 use fm_poly::Poly;
 use fm_words::{Mark, first_part, is_blank, number};
+use sqlite_items::Items;
 use std::alloc::Global;
 
 fn read_degree(problem: &Problem, digits: &[u8]) -> Result<u8, FaultKind>

@@ -1,6 +1,6 @@
 // Queries.
-use crate::Items;
 use fm_poly::Poly;
+use sqlite_items::Items;
 
 /// A query of a problem. `i` is the degree of the local cohomology module; ideals count from 0.
 #[derive(Drop)]

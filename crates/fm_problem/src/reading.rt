@@ -1,8 +1,9 @@
 // The reader of problem texts.
 ghost use Rattle.std.specs.Prelude.{◌≡◌, ◌+◌, ◌<◌, ◌^◌, IfOk, OnOk, Ok, length, option_map};
+ghost use Rattle.fm_gfp.specs.Primes.{prime_of};
 ghost use Rattle.fm_words.specs.Lines.{ahead, reach};
 ghost use Rattle.fm_words.specs.Words.{value};
-ghost use Rattle.fm_problem.specs.Problems.{IsBounded, after_ring, order_in as order_in_statement, plus_line, prime_of, problem_of, query_of, ring_of, with_line, with_order as problem_with_order};
+ghost use Rattle.fm_problem.specs.Problems.{IsBounded, after_ring, order_in as order_in_statement, plus_line, problem_of, query_of, ring_of, with_line, with_order as problem_with_order};
 ghost use Rattle.fm_problem.specs.Readings.{Reads};
 ghost use Rattle.fm_problem.specs.Sound.{IsProblem};
 ghost use Rattle.fm_problem.specs.Statements.{statement_of};
@@ -14,24 +15,19 @@ use crate::line_error::LineError;
 use crate::names::read_names;
 use crate::queries::{add_query, query_in};
 use crate::statements::{StatementText, read_statement};
-use crate::{FaultKind, Items, Problem, ProblemError, Query};
+use crate::{FaultKind, Problem, ProblemError, Query};
 use fm_gfp::Prime;
 use fm_mono::Order;
 use fm_poly::Ring;
 use fm_words::{Lines, end_of, next_line, number};
+use sqlite_items::Items;
 use std::alloc::Global;
-
-fn prime(n: u64) -> Option<Prime>
-    ensures { result ≡ prime_of n }
-{
-    Prime::of(n)
-}
 
 fn read_prime(digits: &[u8]) -> Option<Prime>
     ensures { result ≡ prime_of (value digits.now) }
 {
     let n = number(digits)?;
-    prime(n)
+    Prime::of(n)
 }
 
 // The problem that a ring line begins.

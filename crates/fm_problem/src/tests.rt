@@ -7,7 +7,7 @@ use crate::{
     FaultKind, PolyFault, Problem, ProblemError, Query, read_poly, read_problem, read_query,
 };
 use fm_gfp::Prime;
-use fm_mono::Order;
+use fm_mono::{Mono, Order};
 use fm_poly::{Poly, Ring};
 use std::alloc::Global;
 use std::test::Fail;
@@ -62,8 +62,10 @@ const FORMS: [Row; 26] = [
     ("ring 2 x\nfoo\nideal I = t", 2, FaultKind::Syntax),
 ];
 
-const VALUES: [Row; 22] = [
+const VALUES: [Row; 24] = [
     ("ring 4 x", 1, FaultKind::NotPrime),
+    ("ring 37 x", 1, FaultKind::NotPrime),
+    ("ring 31 x y x", 1, FaultKind::Repeated),
     ("ring 18446744073709551618 x", 1, FaultKind::NotPrime),
     (
         "ring 2 x y\nideal I = x\nideal I = y",
@@ -142,13 +144,25 @@ fn problem_of(alloc: Global, text: &[u8]) -> Result<Problem, Fail>
     Ok(problem)
 }
 
-fn is_poly(f: &Poly, want: &[(u8, &[u16])]) -> bool {
+fn is_mono(m: Mono, want: &[u32]) -> bool {
+    if usize::from(m.vars()) != want.len() {
+        return false;
+    }
+    for k in 0..m.vars() {
+        if m.exponent(k) != want[usize::from(k)] {
+            return false;
+        }
+    }
+    true
+}
+
+fn is_poly(f: &Poly, want: &[(u8, &[u32])]) -> bool {
     let terms = f.terms();
     if terms.len() != want.len() {
         return false;
     }
     for (t, (coeff, exponents)) in terms.iter().zip(want) {
-        if t.coeff.number() != *coeff || t.mono.exponents() != *exponents {
+        if t.coeff.number() != *coeff || !is_mono(t.mono, exponents) {
             return false;
         }
     }
@@ -241,15 +255,15 @@ fn reads_polynomials_of_certificates(rt: HostRuntime) -> Result<(), Fail> {
         vars: 2,
         order: Order::Grevlex,
     };
-    let f = read_poly(rt.alloc(), ring, names, b"-x^65535*y+06*x+0*y^65535")?;
-    assert!(rt; is_poly(&f, &[(4, &[65535, 1]), (1, &[1, 0])]));
+    let f = read_poly(rt.alloc(), ring, names, b"-x^16777215*y+06*x+0*y^16777215")?;
+    assert!(rt; is_poly(&f, &[(4, &[16777215, 1]), (1, &[1, 0])]));
     for text in [
         "",
         "x y",
         "x +y",
         "t",
-        "x^65536+t",
-        "x^65536*18446744073709551616",
+        "x^16777216+t",
+        "x^16777216*18446744073709551616",
         "2^3",
     ] {
         assert!(rt;
@@ -260,7 +274,7 @@ fn reads_polynomials_of_certificates(rt: HostRuntime) -> Result<(), Fail> {
             "{text}"
         );
     }
-    for text in ["x^65536", "0*x^65535*x", "y-x^99999999999999999999"] {
+    for text in ["x^16777216", "0*x^16777215*x", "y-x^99999999999999999999"] {
         assert!(rt;
             matches!(
                 &read_poly(rt.alloc(), ring, names, text.as_bytes()),
@@ -318,6 +332,20 @@ fn with_ideals(alloc: Global, count: u32, last: &str) -> Result<Vec<u8>, Fail> {
     }
     text.extend_from_slice(last.as_bytes())?;
     Ok(text)
+}
+
+#[test]
+fn reads_texts_at_the_limits(rt: HostRuntime) -> Result<(), Fail> {
+    for text in [
+        "ring 31 a b c d e f g h",
+        "ring 29 abcdefghijklmnop\nideal abcdefghijklmnop = abcdefghijklmnop",
+        "ring 23 x\nideal I = x^1000+x^400*x^600",
+        "ring 19 x\nideal I = x\nclass 1 I 16 (x)",
+        "ring 17 x\nideal I = 18446744073709551615*x",
+    ] {
+        assert_eq!(rt; fault_of(rt.alloc(), text.as_bytes())?, None, "{text}");
+    }
+    Ok(())
 }
 
 #[test]

@@ -1,7 +1,9 @@
-mod Rows
 pub mod Lines
-pub mod Steps
-pub mod Written
 pub mod Holding
+pub mod Written
+pub mod HeadsRead
+pub mod ReportsRead
 pub mod Silent
-pub mod Exact
+pub mod NamingsSaid
+pub mod BlocksSaid
+pub mod Ended

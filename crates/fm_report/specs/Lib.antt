@@ -1,5 +1,8 @@
-pub mod Statements
+pub mod Parts
+pub mod Sheets
+pub mod Verdicts
 pub mod Reading
-pub mod Writing
 pub mod Holding
-pub mod PrincipalQueries
+pub mod Reports
+pub mod Answered
+pub mod Examples

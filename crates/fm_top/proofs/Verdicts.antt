@@ -7,7 +7,7 @@ use Rattle.fm_problem.specs.Faults.{Fault}
 use Rattle.fm_problem.specs.Problems.{problem_of}
 use Rattle.fm_report.specs.Holding.{VerdictsHold, VerdictsHoldSince}
 use Rattle.fm_report.proofs.Holding.{kept_holds, added_holds}
-use Rattle.fm_report.proofs.Silent.{one_line_holds}
+use Rattle.fm_report.proofs.Silent.{message_holds}
 use Rattle.fm_decide.proofs.FaultLines.{fault_line_holds}
 use Rattle.fm_decide.proofs.Reported.{text_holds}
 use Rattle.std.specs.declared.alloc.AllocError.{AllocError}
@@ -15,7 +15,7 @@ use Rattle.fm_top.specs.declared.reply.Reply.{Reply}
 use Rattle.fm_top.specs.Output.{HoldThroughout, faulted, reported, usage}
 
 pub usage_holds : HoldThroughout usage.bytes
-usage_holds front back e = one_line_holds (codes "usage: fmod decide [--budget N] | check | sample N") refl front back e
+usage_holds front back e = message_holds (codes "usage: fmod decide [--budget N] | check | sample N") refl refl front back e
 
 pub report_holds : (units : ℕ) (text bytes : List ℕ) (q : Problem) → problem_of text ≡ Ok q → bytes ≡ (reported units q).bytes → HoldThroughout bytes
 report_holds units text bytes q reads are front back e = text_holds text units q reads front back (sym are ∙ e)

@@ -7,8 +7,7 @@ use Rattle.fm_problem.specs.declared.problem.Problem as problems
 use Rattle.fm_problem.specs.Faults.{Fault, fault_text}
 use Rattle.fm_problem.specs.Problems.{problem_of}
 use Rattle.fm_report.specs.Holding.{VerdictsHold}
-use Rattle.fm_report.specs.Writing.{report_text}
-use Rattle.fm_decide.specs.Reports.{report_of, all_answered}
+use Rattle.fm_decide.specs.Answers.{answers, are_answered, report_bytes}
 use Rattle.fm_top.specs.Words.{budget_of}
 
 -- a status and the bytes written
@@ -33,7 +32,7 @@ faulted f = record { status = Problem; bytes = codes "line " ++ (decimal f.line 
 
 -- the report of a problem; the status tells whether each query is answered
 abbrev pub reported : ℕ → problems.Problem → Output
-reported units q = record { status = if all_answered (report_of units q).queries then Done else Unanswered; bytes = report_text (report_of units q) }
+reported units q = record { status = if are_answered (answers units q q.queries) then Done else Unanswered; bytes = report_bytes units q }
 
 abbrev pub judged : ℕ → Result problems.Problem Fault → Output
 judged units (Ok q) = reported units q

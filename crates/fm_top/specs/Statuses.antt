@@ -37,3 +37,15 @@ IsWritten ReadFault = ⊥
 IsWritten WriteFault = ⊥
 IsWritten Memory = ⊥
 IsWritten TooLong = ⊥
+
+-- how a run ends that read a problem text and wrote what it gives
+abbrev pub IsOfText : Status → Type 0
+IsOfText Done = Unit {0}
+IsOfText Unanswered = Unit {0}
+IsOfText Problem = Unit {0}
+IsOfText Refused = ⊥
+IsOfText Usage = ⊥
+IsOfText ReadFault = ⊥
+IsOfText WriteFault = ⊥
+IsOfText Memory = ⊥
+IsOfText TooLong = ⊥

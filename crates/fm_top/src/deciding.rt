@@ -2,7 +2,7 @@
 ghost use Rattle.std.specs.Prelude.{◌≡◌, ◌≤◌, length, IfOk};
 ghost use Rattle.fm_problem.specs.Sound.{IsProblem};
 ghost use Rattle.fm_top.specs.Output.{HoldThroughout, decided, faulted, problem_limit, reported};
-ghost use Rattle.fm_top.specs.Statuses.{IsWritten};
+ghost use Rattle.fm_top.specs.Statuses.{IsOfText, IsWritten};
 
 use crate::reply::Reply;
 use fm_base::Status;
@@ -16,6 +16,7 @@ use std::alloc::{AllocError, Global};
 pub fn decide(alloc: Global, text: &[u8], units: u32) -> Result<Reply, AllocError>
     requires { length text.now ≤ problem_limit }
     ensures written { IfOk result (λ r. IsWritten r.status) }
+    ensures of_text { IfOk result (λ r. IsOfText r.status) }
     ensures status { IfOk result (λ r. r.status ≡ (decided units text.now).status) }
     ensures bytes { IfOk result (λ r. r.bytes.items ≡ (decided units text.now).bytes) }
     ensures verdicts { IfOk result (λ r. HoldThroughout r.bytes.items) }
@@ -30,6 +31,7 @@ pub fn decide(alloc: Global, text: &[u8], units: u32) -> Result<Reply, AllocErro
 fn report(alloc: Global, problem: &Problem, units: u32) -> Result<Reply, AllocError>
     requires { IsProblem problem.now }
     ensures written { IfOk result (λ r. IsWritten r.status) }
+    ensures of_text { IfOk result (λ r. IsOfText r.status) }
     ensures status { IfOk result (λ r. r.status ≡ (reported units problem.now).status) }
     ensures bytes { IfOk result (λ r. r.bytes.items ≡ (reported units problem.now).bytes) }
 {
@@ -46,6 +48,7 @@ fn report(alloc: Global, problem: &Problem, units: u32) -> Result<Reply, AllocEr
 
 fn fault_line(alloc: Global, line: u32, kind: FaultKind) -> Result<Reply, AllocError>
     ensures written { IfOk result (λ r. IsWritten r.status) }
+    ensures of_text { IfOk result (λ r. IsOfText r.status) }
     ensures status { IfOk result (λ r. r.status ≡ (faulted (record { line = line; kind = kind })).status) }
     ensures bytes { IfOk result (λ r. r.bytes.items ≡ (faulted (record { line = line; kind = kind })).bytes) }
 {

@@ -1,5 +1,5 @@
 // What is to be written, and how the run ends then.
-ghost use Rattle.std.specs.Prelude.{◌≡◌, ◌≤◌};
+ghost use Rattle.std.specs.Prelude.{◌≡◌, ◌≤◌, ◌⊎◌};
 ghost use Rattle.std.specs.Io.KnownBytes.{Appends};
 ghost use Rattle.fm_base.specs.Causes.{Rose};
 ghost use Rattle.fm_base.specs.Parts.{AppendsPrefix};
@@ -18,6 +18,7 @@ pub fn write_reply<K: Sink>(sink: &mut K, status: Status, bytes: &[u8]) -> Statu
     requires { IsWritten status }
     ensures plain { IsPlain result → (result ≡ status) × Appends (K.taken sink.old) (K.taken sink.new) bytes.now }
     ensures prefix { AppendsPrefix (K.taken sink.old) (K.taken sink.new) bytes.now }
+    ensures either { (result ≡ status) ⊎ (result ≡ Status.WriteFault) }
     ensures loud { IsQuiet result → ⊥ }
     ensures write { result ≡ Status.WriteFault → Rose (K.faults sink.old) (K.faults sink.new) }
     ensures later { K.faults sink.old ≤ K.faults sink.new }

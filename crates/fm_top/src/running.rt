@@ -1,11 +1,11 @@
 // The top call.
-ghost use Rattle.std.specs.Prelude.{◌≡◌, ◌≤◌, IfSome, map, string_bytes, true, false};
+ghost use Rattle.std.specs.Prelude.{◌≡◌, ◌≢◌, ◌≤◌, ◌⊎◌, IfSome, map, string_bytes, true, false};
 ghost use Rattle.std.specs.Io.KnownBytes.{Appends, Keeps, IsAtEnd};
 ghost use Rattle.fm_base.specs.Causes.{Rose};
-ghost use Rattle.fm_base.specs.Parts.{AppendsPrefix};
+ghost use Rattle.fm_base.specs.Parts.{AppendsPrefix, ConsumesAtMost};
 ghost use Rattle.fm_report.specs.Holding.{VerdictsHoldSince};
 ghost use Rattle.fm_top.specs.Words.{reads_problem};
-ghost use Rattle.fm_top.specs.Output.{determined_output};
+ghost use Rattle.fm_top.specs.Output.{determined_output, problem_limit};
 ghost use Rattle.fm_top.specs.Statuses.{IsPlain, IsQuiet};
 
 use crate::deciding::decide;
@@ -34,6 +34,11 @@ pub fn run<S: Source, K: Sink>(
         (λ output. AppendsPrefix (K.taken sink.old) (K.taken sink.new) output.bytes) }
     ensures quiet { IsQuiet result → Keeps (K.taken sink.old) (K.taken sink.new) }
 
+    // the words alone tell whether the usage line is written, and no certificate is refused
+    ensures usage { reads_problem (map string_bytes words.now) ≡ false → (result ≡ Status.Usage) ⊎ (result ≡ Status.WriteFault) }
+    ensures no_usage { reads_problem (map string_bytes words.now) ≡ true → result ≢ Status.Usage }
+    ensures unrefused { result ≢ Status.Refused }
+
     // the headline: what the sink took states only verdicts that hold in the limit, however the run ends
     ensures verdicts { VerdictsHoldSince (K.taken sink.old) (K.taken sink.new) }
 
@@ -43,6 +48,7 @@ pub fn run<S: Source, K: Sink>(
 
     // the causes
     ensures read_fault { result ≡ Status.ReadFault → Rose (S.faults source.old) (S.faults source.new) }
+    ensures early { result ≡ Status.ReadFault → ConsumesAtMost (S.left source.old) (S.left source.new) problem_limit }
     ensures write_fault { result ≡ Status.WriteFault → Rose (K.faults sink.old) (K.faults sink.new) }
     ensures source_later { S.faults source.old ≤ S.faults source.new }
     ensures sink_later { K.faults sink.old ≤ K.faults sink.new }

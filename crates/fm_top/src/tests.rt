@@ -14,7 +14,7 @@ struct Row {
     written: &'static [u8],
 }
 
-const ROWS: [Row; 30] = [
+const ROWS: [Row; 32] = [
     Row {
         words: &["decide"],
         text: b"ring 3 x y\nideal I = x*y\nclass 1 I 0 (x^2*y)\n",
@@ -45,7 +45,7 @@ const ROWS: [Row; 30] = [
         failing_reads: &[],
         failing_writes: &[],
         status: Status::Unanswered,
-        written: b"report 0\nring 13 x\norder grevlex\nideal I = x\nquery 1 class 1 I 5 (1)\nunanswered exponents stage 0\ndone 1\nquery 2 class 1 I 7 (1)\nunanswered exponents stage 0\ndone 2\nend report\n",
+        written: b"report 0\nring 13 x\norder grevlex\nideal I = x\nquery 1 class 1 I 5 (1)\nanswer no\ndatum I 1\npart 1 given 1 1 (x)\nd 1 1\npart 2 given 1 0\nd 2 2\npart 3 given 1 1 (1)\ntheta 0 3\npart 4 given 1 1 (x^12)\ntheta 1 4\ndone 1\nquery 2 class 1 I 7 (1)\nunanswered exponents stage 0\ndone 2\nend report\n",
     },
     Row {
         words: &["decide", "--budget", "1"],
@@ -86,6 +86,22 @@ const ROWS: [Row; 30] = [
         failing_writes: &[],
         status: Status::Problem,
         written: b"line 3: syntax\n",
+    },
+    Row {
+        words: &["decide"],
+        text: b"ring 31 x\nideal I = x\nclass 1 I 0 (x)\n",
+        failing_reads: &[],
+        failing_writes: &[],
+        status: Status::Done,
+        written: b"report 0\nring 31 x\norder grevlex\nideal I = x\nquery 1 class 1 I 0 (x)\nanswer yes stage 0\ndatum I 1\npart 1 given 1 1 (x)\nd 1 1\npart 2 given 1 0\nd 2 2\npart 3 given 1 1 (1)\ntheta 0 3\npart 4 given 1 1 (x^30)\ntheta 1 4\ndone 1\nend report\n",
+    },
+    Row {
+        words: &["decide"],
+        text: b"ring 37 x\n",
+        failing_reads: &[],
+        failing_writes: &[],
+        status: Status::Problem,
+        written: b"line 1: not a listed prime\n",
     },
     Row {
         words: &["decide"],

@@ -10,11 +10,12 @@ use Rattle.fm_poly.specs.declared.ring.Ring.{Ring}
 use Rattle.fm_poly.specs.declared.term.Term.{Term}
 use Rattle.fm_poly.specs.Polys.{pairs, IsCanonical}
 use Rattle.fm_poly.proofs.KeptTerms.{lists_unique}
-use Rattle.fm_vec.specs.declared.vterm.VTerm.{VTerm}
-use Rattle.fm_vec.specs.Places.{AllBelow, Falls}
-use Rattle.fm_vec.specs.Vectors.{AreTerms, IsVector}
+use Rattle.fm_term.specs.declared.vterm.VTerm.{VTerm}
+use Rattle.fm_term.specs.Places.{AllBelow, Falls}
+use Rattle.fm_term.specs.Falling.{AreTerms}
+use Rattle.fm_vec.specs.Vectors.{IsVector}
 use Rattle.fm_vec.specs.Components.{component_terms, component_meaning}
-use Rattle.fm_vec.proofs.Places.{less_place}
+use Rattle.fm_term.proofs.Places.{less_place}
 
 module _ (r : Ring) where
   -- ---- a component is a canonical list
@@ -39,7 +40,7 @@ module _ (r : Ring) where
       go true i later = (below_component k t ts (eqb-true t.component k i) w.0, later)
       go false i later = later
 
-  component_listed : (k : ℕ) (ts : List VTerm) → AreTerms r ts → AreListedTerms r.prime r.vars (pairs (component_terms k ts))
+  component_listed : (k : ℕ) (ts : List VTerm) → AreTerms r.prime r.vars ts → AreListedTerms r.prime r.vars (pairs (component_terms k ts))
   component_listed k [] w = tt
   component_listed k (t ∷ ts) w = go (t.component == k) (component_listed k ts w.1)
     where
@@ -48,7 +49,7 @@ module _ (r : Ring) where
       go true later = (w.0.fits, w.0.positive, w.0.below, later)
       go false later = later
 
-  pub component_canonical : (k : ℕ) (ts : List VTerm) → Falls r.order ts → AreTerms r ts → IsCanonical r (component_terms k ts)
+  pub component_canonical : (k : ℕ) (ts : List VTerm) → Falls r.order ts → AreTerms r.prime r.vars ts → IsCanonical r (component_terms k ts)
   component_canonical k ts falls terms = record { listed = component_listed k ts terms; falls = component_falls k ts falls }
 
   -- ---- a vector is told by its components

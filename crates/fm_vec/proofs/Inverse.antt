@@ -5,9 +5,10 @@ use Rattle.std.proofs.lemmas.Bool.Decides.{nat_tests}
 use Rattle.fm_poly.specs.declared.ring.Ring.{Ring}
 use Rattle.fm_poly.specs.declared.term.Term.{Term}
 use Rattle.fm_poly.specs.Polys.{PolyValue, meaning}
-use Rattle.fm_vec.specs.declared.vterm.VTerm.{VTerm}
-use Rattle.fm_vec.specs.Places.{Falls}
-use Rattle.fm_vec.specs.Vectors.{AreWithin, IsVector}
+use Rattle.fm_term.specs.declared.vterm.VTerm.{VTerm}
+use Rattle.fm_term.specs.Places.{Falls}
+use Rattle.fm_term.specs.Falling.{AreWithin}
+use Rattle.fm_vec.specs.Vectors.{IsVector}
 use Rattle.fm_vec.specs.Components.{component_meaning, component_terms, components_meaning, vector_meaning, column_from, placed, column_terms, AreOver}
 use Rattle.fm_vec.specs.Steps.{front_count, unplaced, AreFrom}
 use Rattle.fm_vec.proofs.PlacedTerms.{IsFront, front, falls_later, column_same, within_from}

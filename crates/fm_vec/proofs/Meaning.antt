@@ -1,5 +1,5 @@
 -- What sums, multiples and twists of vectors mean, component by component
-use Rattle.std.proofs.Common.{ℕ, ◌+◌, ◌-◌, ◌*◌, ◌^◌, ◌%◌, ◌==◌, ◌<◌, ◌≡◌, if◌then◌else◌, Bool, true, false, List, [], ◌∷◌, ◌++◌, map, length, refl, sym, ap, ap₂, ◌∙◌, arith, mod-eq_of_lt}
+use Rattle.std.proofs.Common.{ℕ, ◌+◌, ◌-◌, ◌*◌, ◌^◌, ◌%◌, ◌==◌, ◌<◌, ◌≡◌, if◌then◌else◌, Bool, true, false, List, [], ◌∷◌, ◌++◌, map, length, refl, sym, ap, ap₂, ◌∙◌, arith, mod-eq_of_lt, replicate}
 use Rattle.std.proofs.Math.Nat.{mod-lt, mod-add-mod, mod_self, zero-mod}
 use Rattle.std.proofs.lemmas.Bool.{eqb-true}
 use Rattle.std.specs.declared.cmp.Ordering.{Ordering}
@@ -18,12 +18,15 @@ use Rattle.fm_poly.specs.Polys.{pairs, meaning}
 use Rattle.fm_poly.specs.Steps.{like_sum}
 use Rattle.fm_poly.proofs.OrderedTerms.{meaning_append, meaning_empty, meaning_cons}
 use Rattle.fm_poly.proofs.MergeSteps.{meaning_like}
-use Rattle.fm_vec.specs.declared.vterm.VTerm.{VTerm}
-use Rattle.fm_vec.specs.Places.{place_cmp}
-use Rattle.fm_vec.specs.Vectors.{AreTerms}
-use Rattle.fm_vec.specs.Multiples.{negated, sum_term, put_at, put, times_term, plus_multiple, minus_multiple, twisted}
+use Rattle.fm_term.specs.declared.vterm.VTerm.{VTerm}
+use Rattle.fm_term.specs.Places.{term_cmp}
+use Rattle.fm_term.specs.Falling.{AreTerms}
+use Rattle.fm_term.specs.Multiples.{multiple_term, twisted, multiple, scaled}
+use Rattle.fm_vec.specs.Multiples.{negated, sum_term, put_at, put, plus_multiple, minus_multiple}
 use Rattle.fm_vec.specs.Components.{component_terms, component_meaning}
-use Rattle.fm_vec.proofs.Places.{same_component, same_mono}
+use Rattle.fm_term.proofs.Places.{same_component, same_mono}
+use Rattle.fm_term.proofs.Multiples.{scaled_is_multiple, terms_have_exponents}
+use Rattle.std.proofs.lemmas.List.{length-replicate}
 
 module _ (r : Ring) where
   abbrev n : ℕ
@@ -116,7 +119,7 @@ module _ (r : Ring) where
   zero_term a = sym (one_term 0 a) ∙ of_drop r.prime r.vars a 0 [] (zero-mod (prime_value r.prime)) ∙ of_none
 
   -- ---- one term more
-  abbrev where_equal : Bool → Value → Value
+  abbrev pub where_equal : Bool → Value → Value
   where_equal true f = f
   where_equal false f = nothing
 
@@ -180,11 +183,11 @@ module _ (r : Ring) where
             ∙ ap (λ b. plus (where_equal b (term t.coeff t.mono)) (plus (where_equal b (term u.coeff u.mono)) (meaning r (component_terms k us)))) (sym e)
 
   -- a term put in is added
-  put_part : (k : ℕ) (t : VTerm) (us : List VTerm) → part k (put r t us) ≡ plus (term_part k t) (part k us)
+  pub put_part : (k : ℕ) (t : VTerm) (us : List VTerm) → part k (put r t us) ≡ plus (term_part k t) (part k us)
   put_part k t [] = part_cons k t []
-  put_part k t (u ∷ us) = go (place_cmp r.order u t) refl (put_part k t us)
+  put_part k t (u ∷ us) = go (term_cmp r.order u t) refl (put_part k t us)
     where
-      go : (c : Ordering) → place_cmp r.order u t ≡ c → part k (put r t us) ≡ plus (term_part k t) (part k us)
+      go : (c : Ordering) → term_cmp r.order u t ≡ c → part k (put r t us) ≡ plus (term_part k t) (part k us)
           → part k (put_at r t u us (put r t us) c) ≡ plus (term_part k t) (part k (u ∷ us))
       go Less e later = part_cons k t (u ∷ us)
       go Equal e later = part_sum k u t us (same_component r.order u t e) (same_mono r.order u t e)
@@ -192,23 +195,35 @@ module _ (r : Ring) where
           part_cons k u (put r t us) ∙ ap (plus (term_part k u)) later ∙ plus_left_comm (term_part k u) (term_part k t) (part k us) ∙ ap (plus (term_part k t)) (sym (part_cons k u us))
 
   -- ---- multiples
-  times_part : (k d : ℕ) (m : List ℕ) (t : VTerm) → length m ≡ r.vars → length t.mono ≡ r.vars → term_part k (times_term r d m t) ≡ times (term d m) (term_part k t)
+  times_part : (k d : ℕ) (m : List ℕ) (t : VTerm) → length m ≡ r.vars → length t.mono ≡ r.vars → term_part k (multiple_term r.prime d m t) ≡ times (term d m) (term_part k t)
   times_part k d m t l fits = go (t.component == k)
     where
       go : (b : Bool) → where_equal b (term ((d * t.coeff) % prime_value r.prime) (tuple_sum m t.mono)) ≡ times (term d m) (where_equal b (term t.coeff t.mono))
       go true = term_modulo (d * t.coeff) (tuple_sum m t.mono) ∙ sym (term_product r.prime r.vars d t.coeff m t.mono l fits)
       go false = sym (times_nothing (term d m))
 
-  pub plus_part : (k d : ℕ) (m : List ℕ) (g f : List VTerm) → length m ≡ r.vars → AreTerms r g → part k (plus_multiple r d m g f) ≡ plus (times (term d m) (part k g)) (part k f)
+  pub plus_part : (k d : ℕ) (m : List ℕ) (g f : List VTerm) → length m ≡ r.vars → AreTerms r.prime r.vars g → part k (plus_multiple r d m g f) ≡ plus (times (term d m) (part k g)) (part k f)
   plus_part k d m [] f l w = sym (ap (λ x. plus x (part k f)) (ap (times (term d m)) (part_none k) ∙ times_nothing (term d m)) ∙ nothing_plus (part k f))
   plus_part k d m (t ∷ g) f l w =
-      put_part k (times_term r d m t) (plus_multiple r d m g f)
+      put_part k (multiple_term r.prime d m t) (plus_multiple r d m g f)
       ∙ ap₂ plus (times_part k d m t l w.0.fits) (plus_part k d m g f l w.1)
       ∙ sym (plus_assoc (times (term d m) (term_part k t)) (times (term d m) (part k g)) (part k f))
       ∙ ap (λ x. plus x (part k f)) (sym (times_plus (term d m) (term_part k t) (part k g)) ∙ ap (times (term d m)) (sym (part_cons k t g)))
 
+  pub multiple_part : (k d : ℕ) (m : List ℕ) (g : List VTerm) → length m ≡ r.vars → AreTerms r.prime r.vars g → part k (multiple r.prime d m g) ≡ times (term d m) (part k g)
+  multiple_part k d m [] l w = part_none k ∙ sym (ap (times (term d m)) (part_none k) ∙ times_nothing (term d m))
+  multiple_part k d m (t ∷ g) l w =
+      part_cons k (multiple_term r.prime d m t) (multiple r.prime d m g)
+      ∙ ap₂ plus (times_part k d m t l w.0.fits) (multiple_part k d m g l w.1)
+      ∙ sym (times_plus (term d m) (term_part k t) (part k g)) ∙ ap (times (term d m)) (sym (part_cons k t g))
+
+  pub scaled_part : (k c : ℕ) (ts : List VTerm) → AreTerms r.prime r.vars ts → part k (scaled r.prime c ts) ≡ times (term c (replicate r.vars 0)) (part k ts)
+  scaled_part k c ts w =
+      ap (part k) (scaled_is_multiple r.prime r.vars c ts (terms_have_exponents r.prime r.vars ts w))
+      ∙ multiple_part k c (replicate r.vars 0) ts (length-replicate r.vars 0) w
+
   -- what a multiple by - c leaves, and the multiple by c
-  pub negated_part : (k c : ℕ) (m : List ℕ) (g f : List VTerm) → c < prime_value r.prime → length m ≡ r.vars → AreTerms r g
+  pub negated_part : (k c : ℕ) (m : List ℕ) (g f : List VTerm) → c < prime_value r.prime → length m ≡ r.vars → AreTerms r.prime r.vars g
       → plus (times (term c m) (part k g)) (part k (plus_multiple r (negated r c) m g f)) ≡ part k f
   negated_part k c m g f below l w =
       ap (plus (times (term c m) (part k g))) (plus_part k (negated r c) m g f l w)
@@ -217,7 +232,7 @@ module _ (r : Ring) where
       ∙ ap (λ x. times x (part k g)) (plus_comm (term c m) (term (negated r c) m) ∙ negated_term c m below) ∙ nothing_times (part k g))
       ∙ nothing_plus (part k f)
 
-  pub minus_part : (k c : ℕ) (m : List ℕ) (g f : List VTerm) → c < prime_value r.prime → length m ≡ r.vars → AreTerms r g
+  pub minus_part : (k c : ℕ) (m : List ℕ) (g f : List VTerm) → c < prime_value r.prime → length m ≡ r.vars → AreTerms r.prime r.vars g
       → plus (times (term c m) (part k g)) (part k (minus_multiple r c m g f)) ≡ part k f
   minus_part k c m g f below l w = go (c == 0) refl
     where

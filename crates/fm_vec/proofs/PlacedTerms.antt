@@ -12,12 +12,13 @@ use Rattle.fm_algebra.specs.Polynomials.{AreListedTerms}
 use Rattle.fm_poly.specs.declared.ring.Ring.{Ring}
 use Rattle.fm_poly.specs.declared.term.Term.{Term}
 use Rattle.fm_poly.specs.Polys.{PolyValue, pairs, IsCanonical}
-use Rattle.fm_vec.specs.declared.vterm.VTerm.{VTerm}
-use Rattle.fm_vec.specs.Places.{AllBelow, Falls}
-use Rattle.fm_vec.specs.Vectors.{AreTerms, AreWithin, IsVector}
+use Rattle.fm_term.specs.declared.vterm.VTerm.{VTerm}
+use Rattle.fm_term.specs.Places.{AllBelow, Falls}
+use Rattle.fm_term.specs.Falling.{AreTerms, AreWithin}
+use Rattle.fm_vec.specs.Vectors.{IsVector}
 use Rattle.fm_vec.specs.Components.{component_terms, column_from, placed, column_terms}
 use Rattle.fm_vec.specs.Steps.{front_count, unplaced, AreFrom}
-use Rattle.fm_vec.proofs.Places.{less_place}
+use Rattle.fm_term.proofs.Places.{less_place}
 use Rattle.fm_vec.proofs.Components.{component_canonical, none_before}
 
 module _ (r : Ring) where
@@ -30,7 +31,7 @@ module _ (r : Ring) where
   placed_falls k [] w = tt
   placed_falls k (t ∷ ts) w = (placed_below k t.coeff t.mono ts w.0, placed_falls k ts w.1)
 
-  placed_terms : (k : ℕ) (ts : List Term) → AreListedTerms r.prime r.vars (pairs ts) → AreTerms r (placed k ts)
+  placed_terms : (k : ℕ) (ts : List Term) → AreListedTerms r.prime r.vars (pairs ts) → AreTerms r.prime r.vars (placed k ts)
   placed_terms k [] w = tt
   placed_terms k (t ∷ ts) w = (record { fits = w.0; positive = w.1; below = w.2 }, placed_terms k ts w.3)
 
@@ -47,7 +48,7 @@ module _ (r : Ring) where
   falls_append k [] ts h w v = v
   falls_append k (t ∷ out) ts h w v = (below_append t out (placed (suc k) ts) w.0 (later_below k t ts h.1), falls_append k out ts h.2 w.1 v)
 
-  terms_append : (us vs : List VTerm) → AreTerms r us → AreTerms r vs → AreTerms r (us ++ vs)
+  terms_append : (us vs : List VTerm) → AreTerms r.prime r.vars us → AreTerms r.prime r.vars vs → AreTerms r.prime r.vars (us ++ vs)
   terms_append [] vs w v = v
   terms_append (u ∷ us) vs w v = (w.0, terms_append us vs w.1 v)
 
@@ -131,7 +132,7 @@ module _ (r : Ring) where
   falls_later (suc n) [] w = tt
   falls_later (suc n) (t ∷ ts) w = falls_later n ts w.1
 
-  terms_later : (n : ℕ) (ts : List VTerm) → AreTerms r ts → AreTerms r (drop n ts)
+  terms_later : (n : ℕ) (ts : List VTerm) → AreTerms r.prime r.vars ts → AreTerms r.prime r.vars (drop n ts)
   terms_later zero ts w = w
   terms_later (suc n) [] w = tt
   terms_later (suc n) (t ∷ ts) w = terms_later n ts w.1
@@ -143,7 +144,7 @@ module _ (r : Ring) where
 
   -- ---- the loop over the components
   module _ (k count : ℕ) (terms own later : List VTerm) (counted : count ≡ front_count (k + 1) terms) (own_is : own ≡ take count terms) (later_is : later ≡ drop count terms)
-      (falls : Falls r.order terms) (proper : AreTerms r terms) (from : AreFrom (suc k) terms) where
+      (falls : Falls r.order terms) (proper : AreTerms r.prime r.vars terms) (from : AreFrom (suc k) terms) where
     is_front : IsFront (suc k) terms count
     is_front = subst (IsFront (suc k) terms) (sym (counted ∙ ap (λ n. front_count n terms) (one_more k))) (front (suc k) terms falls from)
 
@@ -156,8 +157,8 @@ module _ (r : Ring) where
     pub falls_next : Falls r.order later
     falls_next = subst (Falls r.order) (sym later_is) (falls_later count terms falls)
 
-    pub proper_next : AreTerms r later
-    proper_next = subst (AreTerms r) (sym later_is) (terms_later count terms proper)
+    pub proper_next : AreTerms r.prime r.vars later
+    proper_next = subst (AreTerms r.prime r.vars) (sym later_is) (terms_later count terms proper)
 
     pub within_next : AreFrom (suc (k + 1)) later
     within_next = subst (λ n. AreFrom (suc n) later) (sym (one_more k)) (subst (AreFrom (suc (suc k))) (sym later_is) is_front.above)

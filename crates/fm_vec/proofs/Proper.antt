@@ -13,11 +13,13 @@ use Rattle.fm_gfp.specs.Primes.{prime_value}
 use Rattle.fm_gfp.specs.declared.prime.Prime.{Prime}
 use Rattle.fm_gfp.proofs.Residues.{prime_positive, prime_above_one, no_zero_divisors, fermat}
 use Rattle.fm_poly.specs.declared.ring.Ring.{Ring}
-use Rattle.fm_vec.specs.declared.vterm.VTerm.{VTerm}
-use Rattle.fm_vec.specs.Places.{place_cmp, AllBelow, Falls}
-use Rattle.fm_vec.specs.Multiples.{negated, sum_term, put_at, put, times_term, multiple, plus_multiple, cofactor, s_vector_of, scaled, monic_of, twisted}
-use Rattle.fm_vec.specs.Vectors.{IsTerm, AreTerms, AreWithin, HaveSVector, IsVector, head_of}
-use Rattle.fm_vec.proofs.Places.{place_twist}
+use Rattle.fm_term.specs.declared.vterm.VTerm.{VTerm}
+use Rattle.fm_term.specs.Places.{term_cmp, AllBelow, Falls}
+use Rattle.fm_term.specs.Multiples.{multiple_term, multiple, scaled, twisted}
+use Rattle.fm_vec.specs.Multiples.{negated, sum_term, put_at, put, plus_multiple, cofactor, s_vector_of, monic_of}
+use Rattle.fm_term.specs.Falling.{IsTerm, AreTerms, AreWithin, head_of}
+use Rattle.fm_vec.specs.Vectors.{HaveSVector, IsVector}
+use Rattle.fm_term.proofs.Places.{place_twist}
 use Rattle.fm_vec.proofs.Adding.{plus_falls, multiple_falls}
 
 -- ---- coefficients
@@ -88,41 +90,41 @@ bounded_is a m e = go (is_bounded a) e
     go true h = cc
     go false h = cc
 
-pub times_is_term : (r : Ring) (d : ℕ) (m : List ℕ) (t : VTerm) → 0 < d → d < prime_value r.prime → length m ≡ r.vars → IsTerm r t → IsTerm r (times_term r d m t)
+pub times_is_term : (r : Ring) (d : ℕ) (m : List ℕ) (t : VTerm) → 0 < d → d < prime_value r.prime → length m ≡ r.vars → IsTerm r.prime r.vars t → IsTerm r.prime r.vars (multiple_term r.prime d m t)
 times_is_term r d m t some below l term = record {
   fits = length_tuple_sum m t.mono (l ∙ sym term.fits) ∙ l;
   positive = product_positive r.prime d t.coeff some below term.positive term.below;
   below = mod-lt (d * t.coeff) (prime_positive r.prime);
 }
 
-pub multiple_terms : (r : Ring) (d : ℕ) (m : List ℕ) (g : List VTerm) → 0 < d → d < prime_value r.prime → length m ≡ r.vars → AreTerms r g → AreTerms r (multiple r d m g)
+pub multiple_terms : (r : Ring) (d : ℕ) (m : List ℕ) (g : List VTerm) → 0 < d → d < prime_value r.prime → length m ≡ r.vars → AreTerms r.prime r.vars g → AreTerms r.prime r.vars (multiple r.prime d m g)
 multiple_terms r d m [] some below l w = tt
 multiple_terms r d m (t ∷ g) some below l w = (times_is_term r d m t some below l w.0, multiple_terms r d m g some below l w.1)
 
-sum_terms : (r : Ring) (t u : VTerm) (us : List VTerm) → IsTerm r t → AreTerms r us → AreTerms r (sum_term r u t ++ us)
+sum_terms : (r : Ring) (t u : VTerm) (us : List VTerm) → IsTerm r.prime r.vars t → AreTerms r.prime r.vars us → AreTerms r.prime r.vars (sum_term r u t ++ us)
 sum_terms r t u us term w = go ((u.coeff + t.coeff) % prime_value r.prime == 0) refl
   where
     go : (b : Bool) → ((u.coeff + t.coeff) % prime_value r.prime == 0) ≡ b
-        → AreTerms r ((if b then [] else record { component = t.component; mono = t.mono; coeff = (u.coeff + t.coeff) % prime_value r.prime } ∷ []) ++ us)
+        → AreTerms r.prime r.vars ((if b then [] else record { component = t.component; mono = t.mono; coeff = (u.coeff + t.coeff) % prime_value r.prime } ∷ []) ++ us)
     go true e = w
     go false e = (record { fits = term.fits; positive = some ((u.coeff + t.coeff) % prime_value r.prime) e; below = mod-lt (u.coeff + t.coeff) (prime_positive r.prime) }, w)
       where
         some : (c : ℕ) → (c == 0) ≡ false → 0 < c
         some c e = grind (arith, nat_tests)
 
-put_terms : (r : Ring) (t : VTerm) (us : List VTerm) → IsTerm r t → AreTerms r us → AreTerms r (put r t us)
+pub put_terms : (r : Ring) (t : VTerm) (us : List VTerm) → IsTerm r.prime r.vars t → AreTerms r.prime r.vars us → AreTerms r.prime r.vars (put r t us)
 put_terms r t [] term w = (term, tt)
-put_terms r t (u ∷ us) term w = go (place_cmp r.order u t) (put_terms r t us term w.1)
+put_terms r t (u ∷ us) term w = go (term_cmp r.order u t) (put_terms r t us term w.1)
   where
-    go : (c : Ordering) → AreTerms r (put r t us) → AreTerms r (put_at r t u us (put r t us) c)
+    go : (c : Ordering) → AreTerms r.prime r.vars (put r t us) → AreTerms r.prime r.vars (put_at r t u us (put r t us) c)
     go Less later = (term, w)
     go Equal later = sum_terms r t u us term w.1
     go Greater later = (w.0, later)
 
-pub plus_terms : (r : Ring) (d : ℕ) (m : List ℕ) (g f : List VTerm) → 0 < d → d < prime_value r.prime → length m ≡ r.vars → AreTerms r g → AreTerms r f → AreTerms r (plus_multiple r d m g f)
+pub plus_terms : (r : Ring) (d : ℕ) (m : List ℕ) (g f : List VTerm) → 0 < d → d < prime_value r.prime → length m ≡ r.vars → AreTerms r.prime r.vars g → AreTerms r.prime r.vars f → AreTerms r.prime r.vars (plus_multiple r d m g f)
 plus_terms r d m [] f some below l w v = v
 plus_terms r d m (t ∷ g) f some below l w v =
-    put_terms r (times_term r d m t) (plus_multiple r d m g f) (times_is_term r d m t some below l w.0) (plus_terms r d m g f some below l w.1 v)
+    put_terms r (multiple_term r.prime d m t) (plus_multiple r d m g f) (times_is_term r d m t some below l w.0) (plus_terms r d m g f some below l w.1 v)
 
 -- ---- the least common multiple
 pub divides_maximum : (a b : List ℕ) → length a ≡ length b → TupleDivides a (tuple_maximum a b)
@@ -140,9 +142,9 @@ pub length_cofactor : (a b : List ℕ) → length a ≡ length b → length (tup
 length_cofactor a b l = length_entrywise ◌-◌ (tuple_maximum a b) a (length_maximum a b l) ∙ length_maximum a b l
 
 -- ---- components
-put_within : (r : Ring) (n : ℕ) (t : VTerm) (us : List VTerm) → 1 ≤ t.component → t.component ≤ n → AreWithin n us → AreWithin n (put r t us)
+pub put_within : (r : Ring) (n : ℕ) (t : VTerm) (us : List VTerm) → 1 ≤ t.component → t.component ≤ n → AreWithin n us → AreWithin n (put r t us)
 put_within r n t [] low high w = (low, high, tt)
-put_within r n t (u ∷ us) low high w = go (place_cmp r.order u t) (put_within r n t us low high w.2)
+put_within r n t (u ∷ us) low high w = go (term_cmp r.order u t) (put_within r n t us low high w.2)
   where
     summed : (b : Bool) → AreWithin n ((if b then [] else record { component = t.component; mono = t.mono; coeff = (u.coeff + t.coeff) % prime_value r.prime } ∷ []) ++ us)
     summed true = w.2
@@ -155,9 +157,9 @@ put_within r n t (u ∷ us) low high w = go (place_cmp r.order u t) (put_within 
 
 pub plus_within : (r : Ring) (n d : ℕ) (m : List ℕ) (g f : List VTerm) → AreWithin n g → AreWithin n f → AreWithin n (plus_multiple r d m g f)
 plus_within r n d m [] f w v = v
-plus_within r n d m (t ∷ g) f w v = put_within r n (times_term r d m t) (plus_multiple r d m g f) w.0 w.1 (plus_within r n d m g f w.2 v)
+plus_within r n d m (t ∷ g) f w v = put_within r n (multiple_term r.prime d m t) (plus_multiple r d m g f) w.0 w.1 (plus_within r n d m g f w.2 v)
 
-pub multiple_within : (r : Ring) (n d : ℕ) (m : List ℕ) (g : List VTerm) → AreWithin n g → AreWithin n (multiple r d m g)
+pub multiple_within : (r : Ring) (n d : ℕ) (m : List ℕ) (g : List VTerm) → AreWithin n g → AreWithin n (multiple r.prime d m g)
 multiple_within r n d m [] w = tt
 multiple_within r n d m (t ∷ g) w = (w.0, w.1, multiple_within r n d m g w.2)
 
@@ -170,7 +172,7 @@ module _ (r : Ring) (n : ℕ) where
     within = plus_within r n d m g f v.within w.within;
   }
 
-  pub multiple_vector : (d : ℕ) (m : List ℕ) (g : List VTerm) → 0 < d → d < prime_value r.prime → length m ≡ r.vars → IsVector r n g → IsVector r n (multiple r d m g)
+  pub multiple_vector : (d : ℕ) (m : List ℕ) (g : List VTerm) → 0 < d → d < prime_value r.prime → length m ≡ r.vars → IsVector r n g → IsVector r n (multiple r.prime d m g)
   multiple_vector d m g some below l v = record {
     falls = multiple_falls r d m g l v.proper v.falls;
     proper = multiple_terms r d m g some below l v.proper;
@@ -182,22 +184,22 @@ module _ (r : Ring) (n : ℕ) where
   s_vector_is (t ∷ ts) [] h v w = absurd h
   s_vector_is (t ∷ ts) (u ∷ us) h v w =
       let same : length t.mono ≡ length u.mono = v.proper.0.fits ∙ sym w.proper.0.fits in
-      plus_vector (negated r 1) (cofactor u t) (u ∷ us) (multiple r 1 (cofactor t u) (t ∷ ts))
+      plus_vector (negated r 1) (cofactor u t) (u ∷ us) (multiple r.prime 1 (cofactor t u) (t ∷ ts))
       (negated_positive r 1 (omega arith) (prime_above_one r.prime)) (mod-lt (prime_value r.prime - 1) (prime_positive r.prime))
       (length_cofactor u.mono t.mono (sym same) ∙ w.proper.0.fits) w
       (multiple_vector 1 (cofactor t u) (t ∷ ts) (omega arith) (prime_above_one r.prime) (length_cofactor t.mono u.mono same ∙ v.proper.0.fits) v)
 
   -- ---- multiples by a number
   below_scaled : (c : ℕ) (y : VTerm) (ts : List VTerm) → AllBelow r.order y ts
-      → AllBelow r.order (record { component = y.component; mono = y.mono; coeff = (c * y.coeff) % prime_value r.prime }) (scaled r c ts)
+      → AllBelow r.order (record { component = y.component; mono = y.mono; coeff = (c * y.coeff) % prime_value r.prime }) (scaled r.prime c ts)
   below_scaled c y [] w = tt
   below_scaled c y (t ∷ ts) w = (w.0, below_scaled c y ts w.1)
 
-  scaled_falls : (c : ℕ) (ts : List VTerm) → Falls r.order ts → Falls r.order (scaled r c ts)
+  scaled_falls : (c : ℕ) (ts : List VTerm) → Falls r.order ts → Falls r.order (scaled r.prime c ts)
   scaled_falls c [] w = tt
   scaled_falls c (t ∷ ts) w = (below_scaled c t ts w.0, scaled_falls c ts w.1)
 
-  scaled_terms : (c : ℕ) (ts : List VTerm) → 0 < c → c < prime_value r.prime → AreTerms r ts → AreTerms r (scaled r c ts)
+  scaled_terms : (c : ℕ) (ts : List VTerm) → 0 < c → c < prime_value r.prime → AreTerms r.prime r.vars ts → AreTerms r.prime r.vars (scaled r.prime c ts)
   scaled_terms c [] some below w = tt
   scaled_terms c (t ∷ ts) some below w = (
     record {
@@ -208,11 +210,11 @@ module _ (r : Ring) (n : ℕ) where
     scaled_terms c ts some below w.1,
   )
 
-  scaled_within : (c : ℕ) (ts : List VTerm) → AreWithin n ts → AreWithin n (scaled r c ts)
+  scaled_within : (c : ℕ) (ts : List VTerm) → AreWithin n ts → AreWithin n (scaled r.prime c ts)
   scaled_within c [] w = tt
   scaled_within c (t ∷ ts) w = (w.0, w.1, scaled_within c ts w.2)
 
-  pub scaled_vector : (c : ℕ) (ts : List VTerm) → 0 < c → c < prime_value r.prime → IsVector r n ts → IsVector r n (scaled r c ts)
+  pub scaled_vector : (c : ℕ) (ts : List VTerm) → 0 < c → c < prime_value r.prime → IsVector r n ts → IsVector r n (scaled r.prime c ts)
   scaled_vector c ts some below v = record {
     falls = scaled_falls c ts v.falls;
     proper = scaled_terms c ts some below v.proper;
@@ -230,7 +232,7 @@ module _ (r : Ring) (n : ℕ) where
     twisted_falls [] w = tt
     twisted_falls (t ∷ ts) w = (below_twisted t ts w.0, twisted_falls ts w.1)
 
-  twisted_terms : (q : ℕ) (ts : List VTerm) → AreTerms r ts → AreTerms r (twisted q ts)
+  twisted_terms : (q : ℕ) (ts : List VTerm) → AreTerms r.prime r.vars ts → AreTerms r.prime r.vars (twisted q ts)
   twisted_terms q [] w = tt
   twisted_terms q (t ∷ ts) w = (record { fits = length_tuple_multiple q t.mono ∙ w.0.fits; positive = w.0.positive; below = w.0.below }, twisted_terms q ts w.1)
 
@@ -262,13 +264,13 @@ s_vector_made {r} {s} {q} {n} {k} {l} {g} {f} {x} {y} {out} es ek eq el eo ex ey
     (s_vector_is r n f g heads v (moved_vector eq el refl w))
 
 -- the inverse of the head's coefficient makes monic
-pub monic_from : (r : Ring) (ts : List VTerm) (h : VTerm) (x : ℕ) → Some h ≡ head_of ts → AreTerms r ts → (h.coeff * x) % prime_value r.prime ≡ 1 → x < prime_value r.prime
-    → scaled r x ts ≡ monic_of r ts
+pub monic_from : (r : Ring) (ts : List VTerm) (h : VTerm) (x : ℕ) → Some h ≡ head_of ts → AreTerms r.prime r.vars ts → (h.coeff * x) % prime_value r.prime ≡ 1 → x < prime_value r.prime
+    → scaled r.prime x ts ≡ monic_of r ts
 monic_from r [] h x e w one below = cc
 monic_from r (t ∷ ts) h x e w one below =
     let same : h ≡ t = cc in
     let one_at : (t.coeff * x) % prime_value r.prime ≡ 1 = ap (λ (v : VTerm). (v.coeff * x) % prime_value r.prime) (sym same) ∙ one in
-    ap (λ c. scaled r c (t ∷ ts)) (inverse_is r.prime t.coeff x w.0.positive w.0.below below one_at)
+    ap (λ c. scaled r.prime c (t ∷ ts)) (inverse_is r.prime t.coeff x w.0.positive w.0.below below one_at)
 
 -- ---- heads
 pub not_empty : (ts : List VTerm) (t : VTerm) → Some t ≡ head_of ts → ts ≡ [] → ⊥

@@ -4,7 +4,7 @@ use Rattle.fm_algebra.specs.Polynomials.{Polynomial}
 use Rattle.fm_poly.specs.declared.ring.Ring.{Ring}
 use Rattle.fm_poly.specs.declared.term.Term.{Term}
 use Rattle.fm_poly.specs.Polys.{PolyValue, meaning}
-use Rattle.fm_vec.specs.declared.vterm.VTerm.{VTerm}
+use Rattle.fm_term.specs.declared.vterm.VTerm.{VTerm}
 
 -- the terms in component k
 abbrev pub component_terms : ℕ → List VTerm → List Term

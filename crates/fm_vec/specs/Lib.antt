@@ -1,4 +1,3 @@
-pub mod Places
 pub mod Vectors
 pub mod Multiples
 pub mod Components

@@ -1,13 +1,14 @@
 -- The operations on falling lists of terms. A sum is defined by insertion: each term of a multiple is put into its place.
-use Rattle.std.specs.Prelude.{ℕ, ◌+◌, ◌-◌, ◌*◌, ◌%◌, ◌^◌, ◌==◌, ◌&&◌, if◌then◌else◌, Bool, true, List, [], ◌∷◌, ◌++◌}
+use Rattle.std.specs.Prelude.{ℕ, ◌+◌, ◌-◌, ◌%◌, ◌^◌, ◌==◌, ◌&&◌, if◌then◌else◌, Bool, true, List, [], ◌∷◌, ◌++◌}
 use Rattle.std.specs.declared.cmp.Ordering.{Ordering}
 use Rattle.std.specs.declared.cmp.Ordering.TheVariants.{Less, Equal, Greater}
 use Rattle.fm_tuple.specs.Tuple.{tuple_sum, tuple_difference, tuple_maximum, tuple_multiple}
 use Rattle.fm_gfp.specs.Primes.{prime_value}
 use Rattle.fm_mono.specs.Bounded.{is_bounded}
 use Rattle.fm_poly.specs.declared.ring.Ring.{Ring}
-use Rattle.fm_vec.specs.declared.vterm.VTerm.{VTerm}
-use Rattle.fm_vec.specs.Places.{place_cmp}
+use Rattle.fm_term.specs.declared.vterm.VTerm.{VTerm}
+use Rattle.fm_term.specs.Places.{term_cmp}
+use Rattle.fm_term.specs.Multiples.{multiple_term, multiple, is_multiple_within, scaled}
 
 -- ---- coefficients
 -- - c modulo p
@@ -34,22 +35,13 @@ put_at r t u us later Greater = u ∷ later
 -- a falling list and one more term, which is put into its place
 abbrev pub put : Ring → VTerm → List VTerm → List VTerm
 put r t [] = t ∷ []
-put r t (u ∷ us) = put_at r t u us (put r t us) (place_cmp r.order u t)
+put r t (u ∷ us) = put_at r t u us (put r t us) (term_cmp r.order u t)
 
 -- ---- multiples
--- d * x^m * t
-abbrev pub times_term : Ring → ℕ → List ℕ → VTerm → VTerm
-times_term r d m t = record { component = t.component; mono = tuple_sum m t.mono; coeff = (d * t.coeff) % prime_value r.prime }
-
--- d * x^m * g
-abbrev pub multiple : Ring → ℕ → List ℕ → List VTerm → List VTerm
-multiple r d m [] = []
-multiple r d m (t ∷ ts) = times_term r d m t ∷ multiple r d m ts
-
 -- f + d * x^m * g
 abbrev pub plus_multiple : Ring → ℕ → List ℕ → List VTerm → List VTerm → List VTerm
 plus_multiple r d m [] f = f
-plus_multiple r d m (t ∷ ts) f = put r (times_term r d m t) (plus_multiple r d m ts f)
+plus_multiple r d m (t ∷ ts) f = put r (multiple_term r.prime d m t) (plus_multiple r d m ts f)
 
 -- f - c * x^m * g
 abbrev pub minus_multiple : Ring → ℕ → List ℕ → List VTerm → List VTerm → List VTerm
@@ -57,19 +49,13 @@ minus_multiple r c m g f = if c == 0 then f else plus_multiple r (negated r c) m
 
 -- no exponent of x^m times a term of g passes the bound
 abbrev pub multiple_fits : List ℕ → List VTerm → Bool
-multiple_fits m [] = true
-multiple_fits m (t ∷ ts) = is_bounded (tuple_sum m t.mono) && multiple_fits m ts
+multiple_fits m ts = is_multiple_within is_bounded m ts
 
 -- ---- monic vectors and S-vectors
--- c * ts
-abbrev pub scaled : Ring → ℕ → List VTerm → List VTerm
-scaled r c [] = []
-scaled r c (t ∷ ts) = record { component = t.component; mono = t.mono; coeff = (c * t.coeff) % prime_value r.prime } ∷ scaled r c ts
-
 -- divided by the head's coefficient
 abbrev pub monic_of : Ring → List VTerm → List VTerm
 monic_of r [] = []
-monic_of r (t ∷ ts) = scaled r (inverse_of r t.coeff) (t ∷ ts)
+monic_of r (t ∷ ts) = scaled r.prime (inverse_of r t.coeff) (t ∷ ts)
 
 -- the monomial by which that of t becomes the least common multiple of those of t and u
 abbrev pub cofactor : VTerm → VTerm → List ℕ
@@ -79,7 +65,7 @@ cofactor t u = tuple_difference (tuple_maximum t.mono u.mono) t.mono
 abbrev pub s_vector_of : Ring → List VTerm → List VTerm → List VTerm
 s_vector_of r [] g = []
 s_vector_of r (t ∷ ts) [] = []
-s_vector_of r (t ∷ ts) (u ∷ us) = plus_multiple r (negated r 1) (cofactor u t) (u ∷ us) (multiple r 1 (cofactor t u) (t ∷ ts))
+s_vector_of r (t ∷ ts) (u ∷ us) = plus_multiple r (negated r 1) (cofactor u t) (u ∷ us) (multiple r.prime 1 (cofactor t u) (t ∷ ts))
 
 -- neither of its two multiples passes the bound
 abbrev pub s_vector_fits : List VTerm → List VTerm → Bool
@@ -88,11 +74,6 @@ s_vector_fits (t ∷ ts) [] = true
 s_vector_fits (t ∷ ts) (u ∷ us) = multiple_fits (cofactor t u) (t ∷ ts) && multiple_fits (cofactor u t) (u ∷ us)
 
 -- ---- twists
--- every exponent multiplied by q
-abbrev pub twisted : ℕ → List VTerm → List VTerm
-twisted q [] = []
-twisted q (t ∷ ts) = record { component = t.component; mono = tuple_multiple q t.mono; coeff = t.coeff } ∷ twisted q ts
-
 -- no exponent of the twist by q passes the bound
 abbrev pub twist_fits : ℕ → List VTerm → Bool
 twist_fits q [] = true

@@ -2,13 +2,14 @@
 ghost use Rattle.std.specs.Prelude.{IfOk, OnOk, drop, length, take, ◌++◌, ◌<◌, ◌^◌, ◌≡◌, ◌≤◌};
 ghost use Rattle.fm_vec.specs.Components.{AreOver, column_from, placed};
 ghost use Rattle.fm_vec.specs.Components as parts;
-ghost use Rattle.fm_vec.specs.Places.{Falls};
+ghost use Rattle.fm_term.specs.Places.{Falls};
 ghost use Rattle.fm_vec.specs.Steps.{AreFrom, front_count};
 ghost use Rattle.fm_vec.specs.Steps as steps;
-ghost use Rattle.fm_vec.specs.Vectors.{AreTerms, IsVector};
+ghost use Rattle.fm_term.specs.Falling.{AreTerms};
+ghost use Rattle.fm_vec.specs.Vectors.{IsVector};
 
-use crate::vterm::VTerm;
 use fm_poly::{Poly, Ring, Term};
+use fm_term::VTerm;
 use std::alloc::{AllocError, Global};
 
 /// The terms of the polynomials, each in the component of its polynomial.
@@ -61,7 +62,7 @@ pub(crate) fn column_of(
     terms: &[VTerm],
 ) -> Result<Vec<Poly>, AllocError>
     requires falls { Falls ring.order terms.now }
-    requires proper { AreTerms ring terms.now }
+    requires proper { AreTerms ring.prime ring.vars terms.now }
     requires within { AreFrom 1 terms.now }
     ensures { IfOk result (λ out. out.items ≡ column_from ring rows 1 terms.now) }
 {

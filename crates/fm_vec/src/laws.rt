@@ -1,26 +1,51 @@
 // Laws of vectors: what their terms mean, component by component.
-ghost use Rattle.std.specs.Prelude.{List, length, map, ℕ, ◌<◌, ◌^◌, ◌≡◌};
+ghost use Rattle.std.specs.Prelude.{List, length, map, replicate, ℕ, ◌∷◌, ◌<◌, ◌^◌, ◌≡◌};
 ghost use Rattle.fm_gfp.specs.Primes.{prime_value};
 ghost use Rattle.fm_algebra.specs.Polynomials.{frobenius_twist, polynomial_product, polynomial_sum, polynomial_term};
 ghost use Rattle.fm_poly.specs.Polys.{PolyValue, meaning};
 ghost use Rattle.fm_poly.specs.declared.ring.Ring.{Ring};
 ghost use Rattle.fm_vec.specs.Components.{AreOver, column_from, column_terms, component_meaning, vector_meaning};
-ghost use Rattle.fm_vec.specs.Multiples.{minus_multiple, plus_multiple, twisted};
-ghost use Rattle.fm_vec.specs.Vectors.{AreTerms, IsVector};
-ghost use Rattle.fm_vec.specs.declared.vterm.VTerm.{VTerm};
+ghost use Rattle.fm_term.specs.Multiples.{multiple, twisted};
+ghost use Rattle.fm_vec.specs.Multiples.{cofactor, inverse_of, minus_multiple, monic_of, plus_multiple, s_vector_of};
+ghost use Rattle.fm_term.specs.Falling.{AreTerms};
+ghost use Rattle.fm_vec.specs.Vectors.{IsVector};
+ghost use Rattle.fm_term.specs.declared.vterm.VTerm.{VTerm};
 
 /// Each component of f + d * x^m * g is that of f plus d * x^m times that of g.
 pub fn sums_go_by_components()
-    ensures { (r : Ring) (k d : ℕ) (m : List ℕ) (g f : List VTerm) → length m ≡ r.vars → AreTerms r g
+    ensures { (r : Ring) (k d : ℕ) (m : List ℕ) (g f : List VTerm) → length m ≡ r.vars → AreTerms r.prime r.vars g
         → component_meaning r k (plus_multiple r d m g f)
         ≡ polynomial_sum r.prime r.vars (polynomial_product r.prime r.vars (polynomial_term r.prime r.vars d m) (component_meaning r k g)) (component_meaning r k f) }
 {}
 
 /// c * x^m * g and f - c * x^m * g make f, in each component.
 pub fn differences_go_by_components()
-    ensures { (r : Ring) (k c : ℕ) (m : List ℕ) (g f : List VTerm) → c < prime_value r.prime → length m ≡ r.vars → AreTerms r g
+    ensures { (r : Ring) (k c : ℕ) (m : List ℕ) (g f : List VTerm) → c < prime_value r.prime → length m ≡ r.vars → AreTerms r.prime r.vars g
         → polynomial_sum r.prime r.vars (polynomial_product r.prime r.vars (polynomial_term r.prime r.vars c m) (component_meaning r k g)) (component_meaning r k (minus_multiple r c m g f))
         ≡ component_meaning r k f }
+{}
+
+/// Each component of d * x^m * g is d * x^m times that of g.
+pub fn multiples_go_by_components()
+    ensures { (r : Ring) (k d : ℕ) (m : List ℕ) (g : List VTerm) → length m ≡ r.vars → AreTerms r.prime r.vars g
+        → component_meaning r k (multiple r.prime d m g) ≡ polynomial_product r.prime r.vars (polynomial_term r.prime r.vars d m) (component_meaning r k g) }
+{}
+
+/// Each component of a vector made monic is that of the vector times the inverse of its leading coefficient.
+pub fn monic_vectors_go_by_components()
+    ensures { (r : Ring) (k : ℕ) (t : VTerm) (ts : List VTerm) → AreTerms r.prime r.vars (t ∷ ts)
+        → component_meaning r k (monic_of r (t ∷ ts))
+        ≡ polynomial_product r.prime r.vars (polynomial_term r.prime r.vars (inverse_of r t.coeff) (replicate r.vars 0)) (component_meaning r k (t ∷ ts)) }
+{}
+
+/// The S-vector of f and g and the multiple of g make the multiple of f, in each component: the two multiples are those whose heads are the
+/// least common multiple of both heads.
+pub fn s_vectors_go_by_components()
+    ensures { (r : Ring) (n k : ℕ) (t u : VTerm) (ts us : List VTerm) → IsVector r n (t ∷ ts) → IsVector r n (u ∷ us)
+        → polynomial_sum r.prime r.vars
+        (polynomial_product r.prime r.vars (polynomial_term r.prime r.vars 1 (cofactor u t)) (component_meaning r k (u ∷ us)))
+        (component_meaning r k (s_vector_of r (t ∷ ts) (u ∷ us)))
+        ≡ polynomial_product r.prime r.vars (polynomial_term r.prime r.vars 1 (cofactor t u)) (component_meaning r k (t ∷ ts)) }
 {}
 
 /// A vector has one strictly falling list of nonzero terms: vectors with the same components have the same terms.

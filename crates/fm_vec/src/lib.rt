@@ -8,7 +8,5 @@ pub(crate) mod terms;
 #[cfg(test)]
 mod tests;
 pub mod vector;
-pub mod vterm;
 
 pub use vector::Vector;
-pub use vterm::VTerm;

@@ -3,15 +3,17 @@ ghost use Rattle.std.specs.Prelude.{IfNone, IfOk, IfSome, IsErrOf, OnOk, drop, f
 ghost use Rattle.fm_tuple.specs.Tuple.{tuple_difference, tuple_maximum, tuple_sum};
 ghost use Rattle.fm_gfp.specs.Primes.{prime_value};
 ghost use Rattle.fm_mono.specs.Bounded.{is_bounded};
-ghost use Rattle.fm_vec.specs.Multiples.{multiple, multiple_fits, plus_multiple, s_vector_fits, s_vector_of, sum_term, times_term};
-ghost use Rattle.fm_vec.specs.Places.{Falls};
+ghost use Rattle.fm_term.specs.Multiples.{multiple, multiple_term};
+ghost use Rattle.fm_vec.specs.Multiples.{multiple_fits, plus_multiple, s_vector_fits, s_vector_of, sum_term};
+ghost use Rattle.fm_term.specs.Places.{Falls};
 ghost use Rattle.fm_vec.specs.Steps.{count_above, top_part, under_part};
-ghost use Rattle.fm_vec.specs.Vectors.{AreTerms, HaveSVector, IsTerm};
+ghost use Rattle.fm_term.specs.Falling.{AreTerms, IsTerm};
+ghost use Rattle.fm_vec.specs.Vectors.{HaveSVector};
 
-use crate::vterm::VTerm;
 use fm_gfp::Gf;
 use fm_mono::{Mono, Order};
 use fm_poly::{PolyError, Ring};
+use fm_term::VTerm;
 use std::alloc::{AllocError, Global};
 use std::cmp::Ordering;
 
@@ -23,9 +25,9 @@ pub(crate) fn s_terms(
     g: &[VTerm],
 ) -> Result<Vec<VTerm>, PolyError>
     requires f_falls { Falls ring.order f.now }
-    requires f_terms { AreTerms ring f.now }
+    requires f_terms { AreTerms ring.prime ring.vars f.now }
     requires g_falls { Falls ring.order g.now }
-    requires g_terms { AreTerms ring g.now }
+    requires g_terms { AreTerms ring.prime ring.vars g.now }
     requires heads { HaveSVector f.now g.now }
     ensures value { IfOk result (λ out. out.items ≡ s_vector_of ring f.now g.now) }
     ensures fits { OnOk result (s_vector_fits f.now g.now ≡ true) }
@@ -71,10 +73,10 @@ fn multiplied(
     requires below { d < prime_value ring.prime }
     requires vars { length m ≡ ring.vars }
     requires falls { Falls ring.order g.now }
-    requires terms { AreTerms ring g.now }
-    ensures value { IfOk result (λ out. out.items ≡ multiple ring d m g.now) }
+    requires terms { AreTerms ring.prime ring.vars g.now }
+    ensures value { IfOk result (λ out. out.items ≡ multiple ring.prime d m g.now) }
     ensures falls { IfOk result (λ out. Falls ring.order out.items) }
-    ensures terms { IfOk result (λ out. AreTerms ring out.items) }
+    ensures terms { IfOk result (λ out. AreTerms ring.prime ring.vars out.items) }
     ensures fits { OnOk result (multiple_fits m g.now ≡ true) }
     ensures exponent { IsErrOf result PolyError.Exponent → multiple_fits m g.now ≡ false }
 {
@@ -105,9 +107,9 @@ pub(crate) fn sum_with_multiple(
     requires below { d < prime_value ring.prime }
     requires vars { length m ≡ ring.vars }
     requires g_falls { Falls ring.order g.now }
-    requires g_terms { AreTerms ring g.now }
+    requires g_terms { AreTerms ring.prime ring.vars g.now }
     requires f_falls { Falls ring.order f.now }
-    requires f_terms { AreTerms ring f.now }
+    requires f_terms { AreTerms ring.prime ring.vars f.now }
     ensures value { IfOk result (λ out. out.items ≡ plus_multiple ring d m g.now f.now) }
     ensures fits { OnOk result (multiple_fits m g.now ≡ true) }
     ensures exponent { IsErrOf result PolyError.Exponent → multiple_fits m g.now ≡ false }
@@ -131,9 +133,9 @@ fn add_multiple(
     requires below { d < prime_value ring.prime }
     requires vars { length m ≡ ring.vars }
     requires g_falls { Falls ring.order g.now }
-    requires g_terms { AreTerms ring g.now }
+    requires g_terms { AreTerms ring.prime ring.vars g.now }
     requires f_falls { Falls ring.order f.now }
-    requires f_terms { AreTerms ring f.now }
+    requires f_terms { AreTerms ring.prime ring.vars f.now }
     ensures value { OnOk result (out.new.items ≡ out.old.items ++ plus_multiple ring d m g.now f.now) }
     ensures fits { OnOk result (multiple_fits m g.now ≡ true) }
     ensures exponent { IsErrOf result PolyError.Exponent → multiple_fits m g.now ≡ false }
@@ -157,7 +159,7 @@ fn add_multiple(
 /// Whether no exponent of m * g passes the bound.
 pub(crate) fn fits(ring: Ring, m: Mono, g: &[VTerm]) -> bool
     requires vars { length m ≡ ring.vars }
-    requires terms { AreTerms ring g.now }
+    requires terms { AreTerms ring.prime ring.vars g.now }
     ensures { result ≡ multiple_fits m g.now }
 {
     let mut g = g;
@@ -178,9 +180,9 @@ fn times(ring: Ring, d: Gf, m: Mono, t: &VTerm) -> Option<VTerm>
     requires some { 0 < d }
     requires below { d < prime_value ring.prime }
     requires vars { length m ≡ ring.vars }
-    requires term { IsTerm ring t.now }
-    ensures value { IfSome result (λ u. u ≡ times_term ring d m t.now) }
-    ensures proper { IfSome result (λ u. IsTerm ring u) }
+    requires term { IsTerm ring.prime ring.vars t.now }
+    ensures value { IfSome result (λ u. u ≡ multiple_term ring.prime d m t.now) }
+    ensures proper { IfSome result (λ u. IsTerm ring.prime ring.vars u) }
     ensures fits { IfSome result (λ u. is_bounded (tuple_sum m t.now.mono) ≡ true) }
     ensures exponent { IfNone result (is_bounded (tuple_sum m t.now.mono) ≡ false) }
 {
@@ -200,8 +202,8 @@ fn copy_above<'a>(
     f: &'a [VTerm],
     out: &mut Vec<VTerm>,
 ) -> Result<&'a [VTerm], AllocError>
-    requires term { IsTerm ring t.now }
-    requires terms { AreTerms ring f.now }
+    requires term { IsTerm ring.prime ring.vars t.now }
+    requires terms { AreTerms ring.prime ring.vars f.now }
     ensures above { OnOk result (out.new.items ≡ out.old.items ++ take (count_above ring.order t.now f.entry.now) f.entry.now) }
     ensures rest { IfOk result (λ rest. rest.now ≡ drop (count_above ring.order t.now f.entry.now) f.entry.now) }
 {
@@ -212,8 +214,8 @@ fn copy_above<'a>(
 
 /// How many terms at the front are greater than t.
 fn length_above(ring: Ring, t: &VTerm, f: &[VTerm]) -> usize
-    requires term { IsTerm ring t.now }
-    requires terms { AreTerms ring f.now }
+    requires term { IsTerm ring.prime ring.vars t.now }
+    requires terms { AreTerms ring.prime ring.vars f.now }
     ensures count { result ≡ count_above ring.order t.now f.now }
     ensures within { result ≤ length f.now }
 {
@@ -238,8 +240,8 @@ fn push_top<'a>(
     f: &'a [VTerm],
     out: &mut Vec<VTerm>,
 ) -> Result<&'a [VTerm], AllocError>
-    requires term { IsTerm ring t.now }
-    requires terms { AreTerms ring f.now }
+    requires term { IsTerm ring.prime ring.vars t.now }
+    requires terms { AreTerms ring.prime ring.vars f.now }
     ensures top { OnOk result (out.new.items ≡ out.old.items ++ top_part ring t.now f.entry.now) }
     ensures rest { IfOk result (λ rest. rest.now ≡ under_part ring.order t.now f.entry.now) }
 {

@@ -1,12 +1,13 @@
 // Operations that go term by term.
 ghost use Rattle.std.specs.Prelude.{IfOk, IsErrOf, OnOk, false, true, ◌<◌, ◌^◌, ◌≡◌};
 ghost use Rattle.fm_gfp.specs.Primes.{prime_value};
-ghost use Rattle.fm_vec.specs.Multiples.{scaled, twist_fits, twisted};
-ghost use Rattle.fm_vec.specs.Vectors.{AreTerms};
+ghost use Rattle.fm_term.specs.Multiples.{scaled, twisted};
+ghost use Rattle.fm_vec.specs.Multiples.{twist_fits};
+ghost use Rattle.fm_term.specs.Falling.{AreTerms};
 
-use crate::vterm::VTerm;
 use fm_gfp::Gf;
 use fm_poly::{PolyError, Ring};
+use fm_term::VTerm;
 use std::alloc::{AllocError, Global};
 
 /// c times the terms.
@@ -17,8 +18,8 @@ pub(crate) fn scale(
     terms: &[VTerm],
 ) -> Result<Vec<VTerm>, AllocError>
     requires below { c < prime_value ring.prime }
-    requires terms { AreTerms ring terms.now }
-    ensures { IfOk result (λ out. out.items ≡ scaled ring c terms.now) }
+    requires terms { AreTerms ring.prime ring.vars terms.now }
+    ensures { IfOk result (λ out. out.items ≡ scaled ring.prime c terms.now) }
 {
     let mut out = Vec::with_capacity(alloc, terms.len())?;
     let mut terms = terms;

@@ -1,16 +1,17 @@
 // The operations against values found by hand.
-ghost use Rattle.std.specs.Prelude.{All, IfOk, ◌≡◌};
+ghost use Rattle.std.specs.Prelude.{All, IfOk, length, ◌≡◌};
 ghost use Rattle.fm_poly.specs.Polys.{IsTermOf};
 
-use crate::{VTerm, Vector};
+use crate::Vector;
 use fm_gfp::Prime;
-use fm_mono::{Mono, Order};
+use fm_mono::{EXPONENT_BOUND, Mono, Order};
 use fm_poly::{Poly, PolyError, Ring, Term};
+use fm_term::VTerm;
 use std::alloc::{AllocError, Global};
 use std::test::Fail;
 
 // Terms in x and y: both exponents and the coefficient.
-type Listed = ([u16; 2], u64);
+type Listed = ([u32; 2], u64);
 
 const PLANE: Ring = Ring {
     prime: Prime::Five,
@@ -26,13 +27,22 @@ fn poly(alloc: Global, list: &[Listed]) -> Result<Poly, AllocError>
     Ok(f)
 }
 
+// The monomial with these exponents, none of which passes the bound.
+#[tactic(auto, using(fm_mono::proofs::Bounds::within_more))]
+fn mono(exponents: [u32; 2]) -> Mono
+    ensures { length result ≡ 2 }
+{
+    let [x, y] = exponents;
+    Mono::of(&[x.min(EXPONENT_BOUND), y.min(EXPONENT_BOUND)])
+}
+
 fn listed(alloc: Global, list: &[Listed]) -> Result<Vec<Term>, AllocError>
     ensures { IfOk result (λ v. All (IsTermOf PLANE) v.items) }
 {
     let mut terms = Vec::new(alloc);
     for t in list {
         terms.push(Term {
-            mono: Mono::of(&t.0),
+            mono: mono(t.0),
             coeff: PLANE.prime.element(t.1),
         })?;
     }
@@ -49,7 +59,7 @@ fn pair(alloc: Global, f: &[Listed], g: &[Listed]) -> Result<Vector, AllocError>
 }
 
 // Whether the terms are these: a component, the exponents and the coefficient.
-fn shows(v: &Vector, want: &[(u32, [u16; 2], u64)]) -> bool {
+fn shows(v: &Vector, want: &[(u32, [u32; 2], u64)]) -> bool {
     let terms = v.terms();
     if terms.len() != want.len() {
         return false;
@@ -57,7 +67,7 @@ fn shows(v: &Vector, want: &[(u32, [u16; 2], u64)]) -> bool {
     for (t, w) in terms.iter().zip(want) {
         let expected = VTerm {
             component: w.0,
-            mono: Mono::of(&w.1),
+            mono: mono(w.1),
             coeff: PLANE.prime.element(w.2),
         };
         if *t != expected {
@@ -165,7 +175,7 @@ fn a_twist_multiplies_exponents(rt: HostRuntime) -> Result<(), Fail> {
     assert!(rt; shows(&v, &[(1, [25, 50], 3), (2, [0, 0], 1)]));
     assert!(rt;
         matches!(
-            twist_of(alloc, &[([13108, 0], 1)], 1),
+            twist_of(alloc, &[([3_355_444, 0], 1)], 1),
             Err(PolyError::Exponent)
         )
     );

@@ -3,16 +3,18 @@ ghost use Rattle.std.specs.Prelude.{IfOk, IsErrOf, OnOk, [], false, length, true
 ghost use Rattle.fm_gfp.specs.Primes.{prime_value};
 ghost use Rattle.fm_vec.specs.Components as parts;
 ghost use Rattle.fm_vec.specs.Components.{AreOver, column_from};
-ghost use Rattle.fm_vec.specs.Multiples.{minus_multiple, monic_of, multiple_fits, plus_multiple, s_vector_fits, s_vector_of, twist_fits, twisted};
-ghost use Rattle.fm_vec.specs.Vectors.{HaveSVector, IsVector, head_of};
+ghost use Rattle.fm_term.specs.Multiples.{twisted};
+ghost use Rattle.fm_vec.specs.Multiples.{minus_multiple, monic_of, multiple_fits, plus_multiple, s_vector_fits, s_vector_of, twist_fits};
+ghost use Rattle.fm_term.specs.Falling.{head_of};
+ghost use Rattle.fm_vec.specs.Vectors.{HaveSVector, IsVector};
 
 use crate::columns::{column_of, column_terms};
 use crate::multiples::{fits, s_terms, sum_with_multiple};
 use crate::terms::{scale, twist_terms};
-use crate::vterm::VTerm;
 use fm_gfp::Gf;
 use fm_mono::Mono;
 use fm_poly::{Poly, PolyError, Ring};
+use fm_term::VTerm;
 use std::alloc::{AllocError, Global};
 use std::marker::Model;
 

@@ -4,7 +4,7 @@ use Rattle.std.specs.List.{join_with_byte}
 use Rattle.fm_poly.specs.Texts.{Bytes, Terms, poly_text, vector_text}
 use Rattle.fm_poly.specs.Printing.{joined}
 use Rattle.fm_poly.proofs.PrintingSteps.{join_first}
-use Rattle.fm_report.specs.Writing.{line_text, Naming, named, naming_lines, number_after}
+use Rattle.fm_writer.specs.Writing.{line_text, Naming, named, naming_lines, number_after}
 use Rattle.fm_writer.specs.Lines.{lines_text}
 use Rattle.fm_writer.specs.Namings.{part_words, lines_naming, forms_after}
 

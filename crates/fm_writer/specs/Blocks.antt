@@ -1,8 +1,8 @@
 -- The block of a query on a class.
 use Rattle.std.specs.Prelude.{ℕ, ◌+◌, ◌<◌, ◌^◌, List, [], ◌∷◌, ◌++◌, Option, Some, None, codes, decimal, length}
 use Rattle.fm_poly.specs.Texts.{Bytes, Terms}
-use Rattle.fm_report.specs.Statements.{PrintedMatrix, ClassQuestion, class, Answer, yes_at_stage, no}
-use Rattle.fm_report.specs.Writing.{End, answered, unanswered, QueryReport, question_words, end_lines, naming_lines, namings}
+use Rattle.fm_writer.specs.Writing.{PrintedMatrix, ClassQuestion, class, Answer, yes_at_stage, no}
+use Rattle.fm_writer.specs.Writing.{End, answered, unanswered, QueryReport, question_words, end_lines, naming_lines, namings}
 use Rattle.fm_writer.specs.declared.class_outcome.ClassOutcome.{ClassOutcome}
 use Rattle.fm_writer.specs.declared.class_outcome.ClassOutcome.TheVariants.{Answered, Unanswered}
 use Rattle.fm_writer.specs.Lines.{words_of}

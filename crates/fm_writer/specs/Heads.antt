@@ -4,7 +4,7 @@ use Rattle.fm_gfp.specs.Primes.{prime_value}
 use Rattle.fm_gfp.specs.declared.prime.Prime.{Prime}
 use Rattle.fm_mono.specs.declared.order.Order.{Order}
 use Rattle.fm_poly.specs.Texts.{Bytes}
-use Rattle.fm_report.specs.Writing.{order_name}
+use Rattle.fm_writer.specs.Writing.{order_name}
 
 -- the first three lines
 abbrev pub head_lines : Prime → List Bytes → Order → List (List Bytes)

@@ -1,3 +1,4 @@
+pub mod Writing
 pub mod Printed
 pub mod Lines
 pub mod Namings

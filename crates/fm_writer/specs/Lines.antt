@@ -3,7 +3,7 @@ use Rattle.std.specs.Prelude.{ℕ, List, map, Vec}
 use Rattle.std.specs.Global.{Global}
 use Rattle.std.specs.List.{flat_map}
 use Rattle.fm_poly.specs.Texts.{Bytes}
-use Rattle.fm_report.specs.Writing.{line_text}
+use Rattle.fm_writer.specs.Writing.{line_text}
 
 -- the text of these lines
 abbrev pub lines_text : List (List Bytes) → Bytes

@@ -1,8 +1,8 @@
 -- Lines that name parts, one after another.
 use Rattle.std.specs.Prelude.{ℕ, zero, suc, ◌+◌, List, [], ◌∷◌, ◌++◌, length, Option, Some, None, codes, decimal}
 use Rattle.fm_poly.specs.Texts.{Bytes}
-use Rattle.fm_report.specs.Statements.{PrintedMatrix}
-use Rattle.fm_report.specs.Writing.{given_words}
+use Rattle.fm_writer.specs.Writing.{PrintedMatrix}
+use Rattle.fm_writer.specs.Writing.{given_words}
 
 -- the line `part K FORM`
 abbrev pub part_words : ℕ → List Bytes → List Bytes

@@ -3,7 +3,7 @@ use Rattle.std.specs.Prelude.{ℕ, ◌≡◌, List, [], ◌∷◌, map, Vec}
 use Rattle.std.specs.Global.{Global}
 use Rattle.fm_poly.specs.Polys.{PolyValue, pairs}
 use Rattle.fm_poly.specs.Texts.{Bytes, Terms}
-use Rattle.fm_report.specs.Statements.{PrintedMatrix}
+use Rattle.fm_writer.specs.Writing.{PrintedMatrix}
 use Rattle.fm_writer.specs.declared.matrix_part.MatrixPart.{MatrixPart}
 
 abbrev pub printed_terms : PolyValue → Terms

@@ -1,7 +1,7 @@
 // The blocks of the queries.
 ghost use Rattle.std.specs.Prelude.{List, OnOk, codes, decimal, length, map, string_bytes, ◌∷◌, [], ◌++◌, ◌+◌, ◌^◌, ◌<◌, ◌≡◌};
 ghost use Rattle.fm_poly.specs.Texts.{Terms, vector_text};
-ghost use Rattle.fm_report.specs.Writing.{answer_words, end_lines, line_text};
+ghost use Rattle.fm_writer.specs.Writing.{answer_words, end_lines, line_text};
 ghost use Rattle.fm_writer.specs.Blocks.{IsOutcomeOver, answer_of, block_lines, class_report, matrix_lines};
 ghost use Rattle.fm_writer.specs.Lines.{lines_text, words_of};
 ghost use Rattle.fm_writer.specs.Printed.{AreMatricesOver, AreOverVariables, printed_matrices, printed_vector};

@@ -1,7 +1,7 @@
 // The forms of parts, as words, and the numbers that they have.
 ghost use Rattle.std.specs.Prelude.{IfOk, OnOk, map, string_bytes, length, zero, ◌++◌, ◌≡◌};
 ghost use Rattle.fm_poly.specs.Texts.{vector_text};
-ghost use Rattle.fm_report.specs.Writing.{given_words, number_after};
+ghost use Rattle.fm_writer.specs.Writing.{given_words, number_after};
 ghost use Rattle.fm_writer.specs.Lines.{forms_of, words_of};
 ghost use Rattle.fm_writer.specs.Printed.{AreColumnsOver, printed_columns, printed_matrix};
 ghost use lib.Pointwise.{pointwise};

@@ -1,7 +1,7 @@
 // The head of a report: the ring, the order and the ideals.
 ghost use Rattle.std.specs.Prelude.{IfOk, OnOk, codes, decimal, length, map, string_bytes, ◌∷◌, [], ◌++◌, ◌≡◌};
 ghost use Rattle.fm_gfp.specs.Primes.{prime_value};
-ghost use Rattle.fm_report.specs.Writing.{generator_words, ideal_words, line_text, order_name};
+ghost use Rattle.fm_writer.specs.Writing.{generator_words, ideal_words, line_text, order_name};
 ghost use Rattle.fm_writer.specs.Lines.{lines_text, words_of};
 ghost use Rattle.fm_writer.specs.Printed.{AreOverVariables, printed_vector};
 ghost use Rattle.fm_writer.specs.Heads.{head_lines};

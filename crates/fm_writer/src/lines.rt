@@ -1,7 +1,7 @@
 // Lines.
 ghost use Rattle.std.specs.Prelude.{OnOk, map, ◌++◌, ◌≡◌, true, false};
 ghost use Rattle.fm_poly.specs.Printing.{Extends, joined};
-ghost use Rattle.fm_report.specs.Writing.{line_text};
+ghost use Rattle.fm_writer.specs.Writing.{line_text};
 
 use std::alloc::AllocError;
 

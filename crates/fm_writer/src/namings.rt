@@ -1,6 +1,6 @@
 // Lines that name parts by their numbers, each part printed before the first line that names it.
 ghost use Rattle.std.specs.Prelude.{List, OnOk, codes, decimal, map, string_bytes, length, zero, ◌∷◌, [], ◌++◌, ◌+◌, ◌^◌, ◌<◌, ◌≡◌};
-ghost use Rattle.fm_report.specs.Writing.{Naming, line_text, naming_lines, namings, number_after};
+ghost use Rattle.fm_writer.specs.Writing.{Naming, line_text, naming_lines, namings, number_after};
 ghost use Rattle.fm_writer.specs.Lines.{forms_of, lines_text, words_of};
 ghost use Rattle.fm_writer.specs.Namings.{forms_after, lines_naming, naming_words, part_words};
 ghost use Rattle.fm_writer.specs.Printed.{AreMatricesOver, printed_matrices};

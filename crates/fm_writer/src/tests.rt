@@ -11,13 +11,13 @@ use crate::heads::{push_head, push_ideal};
 use crate::lines::{push_line, push_more_words};
 use crate::{ClassOutcome, MatrixPart};
 use fm_gfp::Prime;
-use fm_mono::{Mono, Order};
+use fm_mono::{EXPONENT_BOUND, Mono, Order};
 use fm_poly::{Poly, Ring, Term};
 use std::alloc::{AllocError, Global};
 use std::test::Fail;
 
 // Terms in x and y1: both exponents and the coefficient.
-type Listed = ([u16; 2], u64);
+type Listed = ([u32; 2], u64);
 
 type List = &'static [Listed];
 
@@ -142,13 +142,22 @@ fn names(alloc: Global) -> Result<Vec<String>, AllocError>
     Ok(names)
 }
 
+// The monomial with these exponents, none of which passes the bound.
+#[tactic(auto, using(fm_mono::proofs::Bounds::within_more))]
+fn mono(exponents: [u32; 2]) -> Mono
+    ensures { length result ≡ 2 }
+{
+    let [x, y] = exponents;
+    Mono::of(&[x.min(EXPONENT_BOUND), y.min(EXPONENT_BOUND)])
+}
+
 fn listed(alloc: Global, list: &[Listed]) -> Result<Vec<Term>, AllocError>
     ensures { IfOk result (λ v. All (IsTermOf PLANE) v.items) }
 {
     let mut terms = Vec::new(alloc);
     for t in list {
         terms.push(Term {
-            mono: Mono::of(&t.0),
+            mono: mono(t.0),
             coeff: PLANE.prime.element(t.1),
         })?;
     }

@@ -15,7 +15,8 @@ pub fn stages_in_words_of_lists()
         → (e : ℕ) (z : List (Polynomial p n)) → length z ≡ length_in p n i I
         → IsCoboundaryAfter p n i I 0 e z ↔ InImage p n (matrix_transpose p n (matrix_twist p n e (differential p n I.differentials i))) z }
     ensures moves { (p : Prime) (n i : ℕ) (I : ResolvedIdeal p n) → IsResolved p n i I
-        → (s e : ℕ) (z : List (Polynomial p n)) → IsCoboundaryAfter p n i I (suc s) e z ↔ IsCoboundaryAfter p n i I s (suc e) (moved_once p n i I e z) }
+        → (s e : ℕ) (z : List (Polynomial p n)) → IsCoboundaryAfter p n i I (suc s) e z
+        ↔ IsCoboundaryAfter p n i I s (suc e) (moved_once p n i I e z) }
     ensures classes_move { (p : Prime) (n i : ℕ) (I : ResolvedIdeal p n) → IsResolved p n i I
         → (e : ℕ) (z : List (Polynomial p n)) → IsClass p n i I e z → IsClass p n i I (suc e) (moved_once p n i I e z) }
 {}
@@ -25,12 +26,14 @@ pub fn the_same_in_the_limit()
     ensures reflexive { (p : Prime) (n i : ℕ) (I : ResolvedIdeal p n) → IsResolved p n i I
         → (e : ℕ) (z : List (Polynomial p n)) → IsSameClass p n i I e z e z }
     ensures symmetric { (p : Prime) (n i : ℕ) (I : ResolvedIdeal p n) → IsResolved p n i I
-        → (e : ℕ) (z : List (Polynomial p n)) (d : ℕ) (y : List (Polynomial p n)) → IsSameClass p n i I e z d y → IsSameClass p n i I d y e z }
+        → (e : ℕ) (z : List (Polynomial p n)) (d : ℕ) (y : List (Polynomial p n)) → IsSameClass p n i I e z d y
+        → IsSameClass p n i I d y e z }
     ensures transitive { (p : Prime) (n i : ℕ) (I : ResolvedIdeal p n) → IsResolved p n i I
         → (e : ℕ) (z : List (Polynomial p n)) (d : ℕ) (y : List (Polynomial p n)) (c : ℕ) (x : List (Polynomial p n))
         → IsSameClass p n i I e z d y → IsSameClass p n i I d y c x → IsSameClass p n i I e z c x }
     ensures moves { (p : Prime) (n i : ℕ) (I : ResolvedIdeal p n) → IsResolved p n i I
         → (e : ℕ) (z : List (Polynomial p n)) → IsSameClass p n i I e z (suc e) (moved_once p n i I e z) }
     ensures zero { (p : Prime) (n i : ℕ) (I : ResolvedIdeal p n) → IsResolved p n i I
-        → (e : ℕ) (z : List (Polynomial p n)) → IsZeroClass p n i I e z ↔ IsSameClass p n i I e z e (replicate (length_in p n i I) (polynomial_zero p n)) }
+        → (e : ℕ) (z : List (Polynomial p n)) → IsZeroClass p n i I e z
+        ↔ IsSameClass p n i I e z e (replicate (length_in p n i I) (polynomial_zero p n)) }
 {}

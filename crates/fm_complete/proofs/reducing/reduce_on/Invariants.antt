@@ -1,4 +1,4 @@
-use Rattle.std.proofs.Common.{◌≡◌}
+use Rattle.std.proofs.Common.{◌≤◌, ◌≡◌}
 use Rattle.fm_complete.specs.Divisions.{terms_of}
 use Rattle.fm_complete.specs.Reductions.{reduced}
 use Rattle.fm_complete.specs.Trails.{IsTrail, ahead}
@@ -9,6 +9,7 @@ invariant-steps l = record {
   ring_is : l.rest.ring ≡ l.ring;
   rows_is : l.rest.rows ≡ l.rows;
   run : ahead l.steps.items (reduced l.ring (terms_of l.basis) l.work l.rest.terms) ≡ ahead l.initial.steps.items (reduced l.ring (terms_of l.basis) l.initial.work l.initial.rest.terms);
+  spent : l.work ≤ l.initial.work;
   trail : IsTrail l.ring (terms_of l.basis) l.steps.items l.rest.terms;
 }
 

@@ -1,4 +1,4 @@
-use Rattle.std.proofs.Common.{rules, All, ◌≡◌, ◌≢◌, [], length, List, sym, ap, subst, ◌∙◌}
+use Rattle.std.proofs.Common.{rules, All, ◌≢◌, [], length, sym, ap, subst, ◌∙◌}
 use Rattle.fm_poly.specs.Polys.{PolyValue}
 use Rattle.fm_decide.proofs.Loops.{nonzero_column, end_over}
 use Rattle.fm_decide.proofs.answering.push_class_of.Goals as goal

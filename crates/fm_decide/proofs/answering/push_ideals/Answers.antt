@@ -1,8 +1,6 @@
-use Rattle.std.proofs.Common.{rules, sym, ap, ◌∙◌, string_bytes, ◌++◌}
+use Rattle.std.proofs.Common.{◌∙◌, string_bytes}
 use Rattle.std.proofs.lemmas.List.Elements.{All-rest}
 use Rattle.fm_problem.specs.Sound.{IsIdealOf}
-use Rattle.fm_report.specs.Writing.{line_text, ideal_words}
-use Rattle.fm_writer.specs.Printed.{printed_vector}
 use Rattle.fm_decide.proofs.Loops.{ideal_over, ideal_written, ideal_line}
 use Rattle.fm_decide.proofs.answering.push_ideals.Goals as goal
 

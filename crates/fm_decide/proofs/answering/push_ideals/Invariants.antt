@@ -1,7 +1,7 @@
 use Rattle.std.proofs.Common.{All, map, length, ◌++◌, ◌≡◌}
 use Rattle.fm_decide.specs.Reports.{ideal_entry}
 use Rattle.fm_problem.specs.Sound.{IsIdealOf}
-use Rattle.fm_report.specs.Writing.{ideal_words}
+use Rattle.fm_writer.specs.Writing.{ideal_words}
 use Rattle.fm_writer.specs.Lines.{lines_text}
 use Rattle.fm_decide.proofs.answering.push_ideals.Given as goal
 

@@ -1,4 +1,4 @@
-use Rattle.std.proofs.Common.{rules, sym, ap, ◌∙◌, true, ◌≡◌, ◌+◌, suc, ℕ, length, arith}
+use Rattle.std.proofs.Common.{true, ◌≡◌}
 use Rattle.std.proofs.lemmas.List.Elements.{All-rest}
 use Rattle.fm_problem.specs.Problems.{is_built}
 use Rattle.fm_problem.specs.Sound.{IsQueryOf}

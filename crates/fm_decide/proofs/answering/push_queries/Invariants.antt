@@ -1,8 +1,8 @@
-use Rattle.std.proofs.Common.{All, map, length, ◌++◌, ◌+◌, ◌≡◌, ◌&&◌, true}
+use Rattle.std.proofs.Common.{All, length, ◌++◌, ◌+◌, ◌≡◌, ◌&&◌, true}
 use Rattle.fm_decide.specs.Reports.{all_answered, reports_of}
 use Rattle.fm_problem.specs.Problems.{is_built}
 use Rattle.fm_problem.specs.Sound.{IsQueryOf}
-use Rattle.fm_report.specs.Writing.{query_lines}
+use Rattle.fm_writer.specs.Writing.{query_lines}
 use Rattle.fm_writer.specs.Lines.{lines_text}
 use Rattle.fm_decide.proofs.answering.push_queries.Given as goal
 

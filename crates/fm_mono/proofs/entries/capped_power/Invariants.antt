@@ -1,6 +1,6 @@
 use Rattle.std.proofs.Common.{min, ◌+◌, ◌^◌, ◌≡◌}
-use Rattle.fm_mono.specs.declared.exponent.TheConstants.{EXPONENT_BOUND}
+use Rattle.fm_mono.specs.Bounded.{exponent_bound}
 use Rattle.fm_mono.proofs.entries.capped_power.Given as goal
 
 abbrev pub invariant-loop-k : goal.invariant-loop-k
-invariant-loop-k l = l.power ≡ min (l.p ^ l._k) (EXPONENT_BOUND + 1)
+invariant-loop-k l = l.power ≡ min (l.p ^ l._k) (exponent_bound + 1)

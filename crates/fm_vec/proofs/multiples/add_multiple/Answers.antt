@@ -1,12 +1,12 @@
 use Rattle.std.proofs.Common.{subst, sym}
 use Rattle.fm_vec.specs.Steps.{count_above}
-use Rattle.fm_vec.specs.Vectors.{AreTerms}
+use Rattle.fm_term.specs.Falling.{AreTerms}
 use Rattle.fm_vec.proofs.Adding.{terms_drop, turn}
 use Rattle.fm_vec.proofs.multiples.add_multiple.Goals as goal
 
 pub push_top-requires-clause-terms : goal.push_top-requires-clause-terms
 push_top-requires-clause-terms c =
-    subst (AreTerms c.args.ring) (sym c.in_ok-f.ensures.rest)
+    subst (AreTerms c.args.ring.prime c.args.ring.vars) (sym c.in_ok-f.ensures.rest)
     (terms_drop c.args.ring (count_above c.args.ring.order c.in-Some-times.t c.turns.f.now) c.turns.f.now c.turns.invariant.terms_f)
 
 pub turns-preserved : goal.turns-preserved

@@ -1,6 +1,7 @@
 use Rattle.std.proofs.Common.{◌≡◌, ◌++◌, ◌^◌, length}
 use Rattle.fm_gfp.specs.Primes.{prime_value}
-use Rattle.fm_vec.specs.Multiples.{twisted, twist_fits}
+use Rattle.fm_term.specs.Multiples.{twisted}
+use Rattle.fm_vec.specs.Multiples.{twist_fits}
 use Rattle.fm_vec.proofs.terms.twist_terms.Given as goal
 
 abbrev pub invariant-terms : goal.invariant-terms

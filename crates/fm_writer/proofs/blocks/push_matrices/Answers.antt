@@ -1,5 +1,5 @@
 use Rattle.std.proofs.Common.{map, string_bytes, ap, codes}
-use Rattle.fm_report.specs.Writing.{namings}
+use Rattle.fm_writer.specs.Writing.{namings}
 use Rattle.fm_writer.specs.Lines.{forms_of}
 use Rattle.fm_writer.specs.Printed.{printed_matrices}
 use Rattle.fm_writer.proofs.Written.{namings_written}

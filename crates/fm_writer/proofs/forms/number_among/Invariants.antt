@@ -1,6 +1,6 @@
 use Rattle.std.proofs.Common.{◌≡◌, ◌+◌, length}
 use Rattle.std.specs.Prelude.{zero}
-use Rattle.fm_report.specs.Writing.{number_after}
+use Rattle.fm_writer.specs.Writing.{number_after}
 use Rattle.fm_writer.specs.Lines.{forms_of, words_of}
 use Rattle.fm_writer.proofs.forms.number_among.Given as goal
 

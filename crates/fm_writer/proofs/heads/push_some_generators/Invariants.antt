@@ -1,5 +1,5 @@
 use Rattle.std.proofs.Common.{◌≡◌, ◌∷◌, ◌++◌, map, length, string_bytes}
-use Rattle.fm_report.specs.Writing.{generator_words}
+use Rattle.fm_writer.specs.Writing.{generator_words}
 use Rattle.fm_writer.specs.Lines.{words_of}
 use Rattle.fm_writer.specs.Printed.{AreOverVariables, printed_vector}
 use Rattle.fm_writer.proofs.heads.push_some_generators.Given as goal

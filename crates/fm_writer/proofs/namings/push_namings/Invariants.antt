@@ -1,5 +1,5 @@
 use Rattle.std.proofs.Common.{◌≡◌, ◌+◌, ◌++◌, List, length, map, string_bytes}
-use Rattle.fm_report.specs.Writing.{Naming, naming_lines, namings}
+use Rattle.fm_writer.specs.Writing.{Naming, naming_lines, namings}
 use Rattle.fm_writer.specs.Lines.{forms_of, lines_text}
 use Rattle.fm_writer.specs.Printed.{AreMatricesOver, printed_matrices}
 use Rattle.fm_writer.proofs.namings.push_namings.Given as goal

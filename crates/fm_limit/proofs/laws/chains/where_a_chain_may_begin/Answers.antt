@@ -5,4 +5,4 @@ pub returns-clause-relations : goal.returns-clause-relations
 returns-clause-relations c = λ p n i I Z N U. relations_words p n
 
 pub returns-clause-join : goal.returns-clause-join
-returns-clause-join c = λ p n i source target ZS US ZT UT Phi KS KT ls s t. join_words p n
+returns-clause-join c = λ p n i source target ZS NS US ZT NT UT Phi ls S T X Y F. join_words p n S T X Y F

@@ -1,4 +1,4 @@
-use Rattle.fm_limit.proofs.IndependenceWords.{carried_class_words, carried_killed_words, carried_onto_words, carried_zero_words}
+use Rattle.fm_limit.proofs.IndependenceWords.{carried_verdict_words, carried_class_words, carried_killed_words, carried_onto_words, carried_zero_words}
 use Rattle.fm_limit.proofs.laws.independence.classes_are_carried_over.Goals as goal
 
 pub returns-clause-class : goal.returns-clause-class
@@ -12,3 +12,6 @@ returns-clause-zero c = λ p n i I J h ls k. carried_zero_words p n h.first h.se
 
 pub returns-clause-onto : goal.returns-clause-onto
 returns-clause-onto c = λ p n i I J h ls k. carried_onto_words p n h.first h.second h.there h.back k
+
+pub returns-clause-verdict : goal.returns-clause-verdict
+returns-clause-verdict c = λ p n i I J h ls k. carried_verdict_words p n h.first h.second h.there h.back k

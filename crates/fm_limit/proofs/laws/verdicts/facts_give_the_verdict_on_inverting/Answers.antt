@@ -4,13 +4,13 @@ use Rattle.fm_limit.proofs.Waist.{stable_shape, vanishes_fact}
 use Rattle.fm_limit.proofs.laws.verdicts.facts_give_the_verdict_on_inverting.Goals as goal
 
 pub returns-clause-yes : goal.returns-clause-yes
-returns-clause-yes c = λ p n i I Z U Ks t X. inverting_yes_verdict p n X
+returns-clause-yes c = λ p n i D X. inverting_yes_verdict p n X
 
 pub returns-clause-never : goal.returns-clause-never
-returns-clause-never c = λ p n i I Z U Ks t X. inverting_no_verdict p n X
+returns-clause-never c = λ p n i D X. inverting_no_verdict p n X
 
 pub returns-clause-exactly : goal.returns-clause-exactly
-returns-clause-exactly c = λ p n i I Z U Ks t X. vanishes_fact p n X
+returns-clause-exactly c = λ p n i D X. vanishes_fact p n X
 
 pub returns-clause-colons : goal.returns-clause-colons
-returns-clause-colons c = λ p n i I Z U Ks t X. λ f Cs k C. colon_fact p n (stable_shape p n X) C
+returns-clause-colons c = λ p n i D X. λ f Cs k C. colon_fact p n (stable_shape p n X) C

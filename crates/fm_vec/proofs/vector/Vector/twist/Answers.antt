@@ -1,7 +1,7 @@
 use Rattle.std.proofs.Common.{◌^◌, refl, sym, ap, ◌∙◌}
 use Rattle.fm_gfp.specs.Primes.{prime_value}
 use Rattle.fm_algebra.proofs.Concrete.{q_positive}
-use Rattle.fm_vec.specs.Multiples.{twisted}
+use Rattle.fm_term.specs.Multiples.{twisted}
 use Rattle.fm_vec.proofs.Proper.{moved_vector, twisted_vector}
 use Rattle.fm_vec.proofs.vector.Vector.twist.Goals as goal
 

@@ -1,0 +1,34 @@
+use Rattle.std.proofs.Common.{◌∙◌, ◌+◌, length, sym, ap, ap₂, refl, arith, List}
+use Rattle.fm_vec.specs.Vectors.{VectorValue}
+use Rattle.fm_vec.specs.Multiples.{monic_of}
+use Rattle.fm_vec.proofs.Proper.{moved_vector}
+use Rattle.fm_complete.specs.Bases.{start_value}
+use Rattle.fm_complete.specs.Completions.{with_pairs}
+use Rattle.fm_complete.specs.Divisions.{terms_of}
+use Rattle.fm_complete.proofs.Standing.{standing_more, pairs_more, kept_more}
+use Rattle.fm_complete.proofs.completing.keep.Goals as goal
+
+pub returns-clause-kept : goal.returns-clause-kept
+returns-clause-kept c =
+    kept_more c.args.ring c.args.rows c.args.remainder.rest.terms c.in-Some.head c.in-Some.ensures.head (moved_vector c.requires.ring c.requires.rows refl c.head.ensures.proper)
+    c.args.c.now.members.items c.push-2.new.self.items c.in_ok-member.member c.in_ok-push-2.ensures.items
+    (c.in_ok-member.ensures ∙ (λ i. record { ring = c.requires.ring i; rows = c.requires.rows i; terms = monic_of (c.requires.ring i) c.args.remainder.rest.terms })) c.requires.standing
+    (start_value c.args.start) c.args.remainder.by.items c.args.c.now.pending.items c.push_pairs.new.pending.items c.args.c.now.log.items c.push-3.new.self.items _
+    (c.in_ok-push_pairs.ensures.pairs ∙ ap₂ (λ n (ms : List VectorValue). with_pairs c.args.ring.order (n + 1) c.in-Some.head 1 (terms_of ms) c.args.c.now.pending.items) (c.len-count.ensures ∙ sym c.deref.ensures.len ∙ ap (λ (vs : List VectorValue). length vs) c.deref.ensures.value) c.deref.ensures.value)
+    c.in_ok-push-3.ensures.items refl
+
+pub returns-clause-standing : goal.returns-clause-standing
+returns-clause-standing c =
+    standing_more c.args.ring c.args.rows c.args.remainder.rest.terms c.in-Some.head c.in-Some.ensures.head (moved_vector c.requires.ring c.requires.rows refl c.head.ensures.proper)
+    c.args.c.now.members.items c.push-2.new.self.items c.in_ok-member.member c.in_ok-push-2.ensures.items
+    (c.in_ok-member.ensures ∙ (λ i. record { ring = c.requires.ring i; rows = c.requires.rows i; terms = monic_of (c.requires.ring i) c.args.remainder.rest.terms })) c.requires.standing
+    (let a = c.if-count-ge4294967295.false in let b = c.len-count.ensures ∙ sym c.deref.ensures.len ∙ ap (λ (vs : List VectorValue). length vs) c.deref.ensures.value in omega (arith, a, b))
+
+pub returns-clause-pairs : goal.returns-clause-pairs
+returns-clause-pairs c =
+    pairs_more c.args.ring c.args.rows c.args.remainder.rest.terms c.in-Some.head c.in-Some.ensures.head (moved_vector c.requires.ring c.requires.rows refl c.head.ensures.proper)
+    c.args.c.now.members.items c.push-2.new.self.items c.in_ok-member.member c.in_ok-push-2.ensures.items
+    (c.in_ok-member.ensures ∙ (λ i. record { ring = c.requires.ring i; rows = c.requires.rows i; terms = monic_of (c.requires.ring i) c.args.remainder.rest.terms })) c.requires.standing
+    c.args.c.now.pending.items c.push_pairs.new.pending.items c.requires.pairs
+    (c.in_ok-push_pairs.ensures.pairs ∙ ap₂ (λ n (ms : List VectorValue). with_pairs c.args.ring.order (n + 1) c.in-Some.head 1 (terms_of ms) c.args.c.now.pending.items) (c.len-count.ensures ∙ sym c.deref.ensures.len ∙ ap (λ (vs : List VectorValue). length vs) c.deref.ensures.value) c.deref.ensures.value)
+    c.in_ok-push_pairs.ensures.over

@@ -1,0 +1,18 @@
+// Completions under way, and what they end in.
+use crate::{CriticalPair, Entry};
+use fm_vec::Vector;
+
+/// The members of a completion that ended, and its log.
+#[derive(Drop)]
+pub struct Basis {
+    pub members: Vec<Vector>,
+    pub log: Vec<Entry>,
+}
+
+/// A completion under way: the members, the pending pairs in their order, and the log.
+#[derive(Drop)]
+pub(crate) struct Completion {
+    pub members: Vec<Vector>,
+    pub pending: Vec<CriticalPair>,
+    pub log: Vec<Entry>,
+}

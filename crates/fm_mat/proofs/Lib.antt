@@ -1,0 +1,5 @@
+pub mod Supports
+pub mod Acting
+pub mod Steps
+pub mod Operations
+pub mod Meanings

@@ -1,0 +1,4 @@
+pub mod Acting
+pub mod Bounds
+pub mod Columns
+pub mod Matrices

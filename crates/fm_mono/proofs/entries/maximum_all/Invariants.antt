@@ -1,0 +1,8 @@
+use Rattle.std.proofs.Common.{ℕ, max, ◌<◌, ◌≡◌, get_or, length}
+use Rattle.fm_mono.proofs.entries.maximum_all.Given as goal
+
+abbrev pub invariant-loop-k : goal.invariant-loop-k
+invariant-loop-k l = record {
+  places : length l.maxima ≡ 8;
+  entries : (j : ℕ) → j < l.k → get_or l.maxima j 0 ≡ max (get_or l.a j 0) (get_or l.b j 0);
+}

@@ -1,0 +1,6 @@
+use Rattle.std.proofs.Common.{sym, ◌∙◌}
+use Rattle.fm_mono.proofs.Words.{packed_last}
+use Rattle.fm_mono.proofs.mono.Mono.compare_last.Goals as goal
+
+pub returns : goal.returns
+returns c = c.compare_last.ensures ∙ packed_last c.self.inside c.b.inside _ _ c.self.invariant c.b.invariant c.self.view_is c.b.view_is (sym c.requires)

@@ -1,5 +1,0 @@
-use Rattle.fm_report.proofs.Written.{report_read}
-use Rattle.fm_report.proofs.laws.a_written_report_states_what_it_says.Goals as goal
-
-pub returns : goal.returns
-returns c = report_read

@@ -1,0 +1,50 @@
+// The laws of reports.
+ghost use Rattle.std.specs.Prelude.{List, [], false, length, nat_eq, not, true, ◌++◌, ◌∷◌, ◌≡◌, ◌≤◌};
+ghost use Rattle.std.specs.List.{list_all};
+ghost use Rattle.fm_words.specs.Parts.{Bytes};
+ghost use Rattle.fm_words.specs.Words.{words};
+ghost use Rattle.fm_problem.specs.declared.problem.Problem.{Problem};
+ghost use Rattle.fm_report.specs.Verdicts.{Stated};
+ghost use Rattle.fm_report.specs.Reading.{rests_on, statements};
+ghost use Rattle.fm_report.specs.Answered.{answers_of};
+ghost use Rattle.fm_report.specs.Holding.{AllHold, IsHeld, VerdictsHold};
+ghost use Rattle.fm_report.specs.Reports.{IsWritable, QueryReport, report_says, report_text};
+
+/// A written report states what its queries say, in order, and nothing else.
+pub fn a_written_report_states_what_it_says()
+    ensures { (q : Problem) (bs : List QueryReport) → IsWritable q bs → statements (report_text q bs) ≡ report_says q 0 bs }
+{}
+
+/// If what the queries of a written report say holds, then all that the report states holds, and so does all that each beginning of it states.
+pub fn reports_of_queries_that_hold_hold()
+    ensures { (q : Problem) (bs : List QueryReport) → IsWritable q bs → AllHold (report_says q 0 bs) → (front back : Bytes) → report_text q bs ≡ front ++ back
+        → VerdictsHold front }
+{}
+
+/// What a beginning of the bytes states is a beginning of what they state: a report that is cut states nothing that the whole report does not.
+pub fn a_beginning_states_a_beginning()
+    ensures { (front back : Bytes) → (more : List Stated) × (statements (front ++ back) ≡ statements front ++ more) }
+{}
+
+/// What a beginning of bytes states holds, if what they state holds: a report that is cut states only what the whole report does.
+pub fn verdicts_hold_in_a_beginning()
+    ensures { (front back : Bytes) → VerdictsHold (front ++ back) → VerdictsHold front }
+{}
+
+/// A text of one line on which no verdict rests, as a message in place of a report, states nothing, nor does a beginning of it or no text at all.
+pub fn a_message_states_nothing()
+    ensures line { (line : Bytes) → list_all (λ b. not (nat_eq b 10)) line ≡ true → rests_on (words line) ≡ false → (front back : Bytes)
+        → line ++ 10 ∷ [] ≡ front ++ back → VerdictsHold front }
+    ensures nothing { VerdictsHold [] }
+{}
+
+/// Nothing that is answered is passed over: bytes state at least as many things as they have answers that are ended, each `answer` line by a `done` line
+/// before the next query.
+pub fn each_answer_is_stated()
+    ensures { (bytes : Bytes) → answers_of bytes ≤ length (statements bytes) }
+{}
+
+/// Where all holds that bytes state, each thing that they state holds.
+pub fn each_verdict_holds()
+    ensures { (bytes : Bytes) → VerdictsHold bytes → (front back : List Stated) (s : Stated) → statements bytes ≡ front ++ s ∷ back → IsHeld s }
+{}
