@@ -12,7 +12,7 @@ use Rattle.fm_algebra.proofs.Tables.{stacked_shaped, unit_shaped}
 use Rattle.fm_term.specs.Falling.{IsFalling, IsBelowBlock}
 use Rattle.fm_term.specs.Meanings.{vector_of, vectors_of}
 use Rattle.fm_groebner.specs.Bases.{IsGroebnerBasis}
-use Rattle.fm_groebner.specs.Graphs.{graph, graph_rows, IsGraphBasis, zero_vector, AreLowerBlocks}
+use Rattle.fm_groebner.specs.Graphs.{graph, graph_rows, zero_vector, AreLowerBlocks}
 use Rattle.fm_groebner.proofs.Setting.{In, here, there}
 use Rattle.fm_groebner.proofs.Numbers.{in_of_contains, contains_of_in, in_of_map}
 use Rattle.fm_groebner.proofs.Setting.{in_map}
@@ -29,7 +29,7 @@ use Rattle.fm_complete.specs.Combinations.{AreVectors}
 use Rattle.fm_run.specs.Runs.{ready}
 use Rattle.fm_graphs.specs.Listing.{VectorOf, terms_of}
 use Rattle.fm_complete.specs.Completions.{Completion, completed}
-use Rattle.fm_graphs.specs.Graphs.{MatrixOf, Graph, width, graph_run, is_below, lower_block, syzygies, lift_run, is_inside, solution}
+use Rattle.fm_graphs.specs.Graphs.{MatrixOf, Graph, IsCompletedGraph, width, graph_run, is_below, lower_block, syzygies, lift_run, is_inside, solution}
 use Rattle.fm_run.proofs.Ends.{Ends, same_value, bound}
 use Rattle.fm_complete.proofs.Meanings.{part_is, length_components, components_at}
 use Rattle.fm_complete.proofs.HeadReductions.{Reduction, division, are_falling, in_vectors}
@@ -93,26 +93,20 @@ module _ (r : Ring) where
   abbrev pub rows_of : Graph r → ℕ
   rows_of g = graph_rows r.prime r.vars g.matrix
 
-  -- g is a completed graph of its matrix
-  pub record IsGraph (g : Graph r) : Type 0 where
-    pub shape : HasShape r.prime r.vars g.matrix.rows (width r g) g.matrix
-    pub vectors : AreVectors r (rows_of g) g.members
-    pub basis : IsGraphBasis r.prime r.vars r.order g.matrix (vectors_of r.prime r.vars (rows_of g) g.members)
-
   graph_long : (A : MatrixOf r) → HasShape r.prime r.vars A.rows (length A.columns) A → AllLong r.prime r.vars (graph_rows r.prime r.vars A) (graph r.prime r.vars A).columns
   unfolding HasShape matrix_above matrix_unit
   graph_long A s = column_length r.prime r.vars (graph_rows r.prime r.vars A) (length A.columns) (graph r.prime r.vars A)
       (stacked_shaped P A.rows (length A.columns) (length A.columns) A (matrix_unit r.prime r.vars (length A.columns)) refl (unit_shaped P (length A.columns)).0 refl)
 
-  pub graph_is : (A : MatrixOf r) → HasShape r.prime r.vars A.rows (length A.columns) A → (units left : ℕ) (g : Graph r) → Ends (graph_run r A units) g left → IsGraph g × (g.matrix ≡ A)
+  pub graph_is : (A : MatrixOf r) → HasShape r.prime r.vars A.rows (length A.columns) A → (units left : ℕ) (g : Graph r) → Ends (graph_run r A units) g left → IsCompletedGraph r g × (g.matrix ≡ A)
   unfolding graph_run
   graph_is A s units left g e =
       let b = bound (completed r (map (terms_of r) (graph r.prime r.vars A).columns)) (λ c. ready (record { matrix = A; members = c.members; log = c.log })) units left g e in
       let B = completed_columns (graph_rows r.prime r.vars A) (graph r.prime r.vars A).columns (graph_long A s) units b.between b.value b.first in
       let made : Graph r = record { matrix = A; members = b.value.members; log = b.value.log } in
-      let is : IsGraph made = record { shape = s; vectors = B.vectors; basis = B.basis } in
+      let is : IsCompletedGraph r made = record { shape = s; vectors = B.vectors; basis = B.basis } in
       let same = same_value made g b.between left b.second in
-      (subst IsGraph same is, sym (ap (λ (h : Graph r). h.matrix) same))
+      (subst (IsCompletedGraph r) same is, sym (ap (λ (h : Graph r). h.matrix) same))
 
   -- ---- blocks
   below_means : (m : ℕ) (ts : List VTerm) → is_below m ts ≡ true → IsBelowBlock m ts
@@ -151,7 +145,7 @@ module _ (r : Ring) where
   below_found m c ts v w e = below_if m ts ((upper_block r.prime r.vars m r.order c ts v).0 (w, e))
 
   -- ---- syzygies
-  module _ (g : Graph r) (G : IsGraph g) where
+  module _ (g : Graph r) (G : IsCompletedGraph r g) where
     abbrev m : ℕ
     m = g.matrix.rows
 

@@ -25,7 +25,8 @@ use Rattle.fm_complete.specs.Completions.{numbers}
 use Rattle.fm_graphs.specs.Graphs.{MatrixOf, Graph, Outside, Inside, all_inside, first_outside, width, lift_run, is_inside, solution, lifted, with_solution, inside_from, inside_run, whole_run, twisted_graph}
 use Rattle.fm_run.proofs.Ends.{Ends, same_value, bound, bounded_value}
 use Rattle.fm_graphs.proofs.Columns.{AllLong, column_length, Solved}
-use Rattle.fm_graphs.proofs.Graphs.{IsGraph, rows_of, lift_solves, lift_decides}
+use Rattle.fm_graphs.specs.Graphs.{IsCompletedGraph}
+use Rattle.fm_graphs.proofs.Graphs.{rows_of, lift_solves, lift_decides}
 
 -- the runs for a list end with a list
 module _ {E A B : Type 0} (f : A → Run E B) where
@@ -47,7 +48,7 @@ module _ {E A B : Type 0} (f : A → Run E B) where
   pub each_nil : (units left : ℕ) (ys : List B) → Ends (each f [] units) ys left → ys ≡ []
   each_nil units left ys e = sym (same_value [] ys units left e)
 
-module _ (r : Ring) (g : Graph r) (G : IsGraph r g) where
+module _ (r : Ring) (g : Graph r) (G : IsCompletedGraph r g) where
   abbrev A : MatrixOf r
   A = g.matrix
 
@@ -150,17 +151,17 @@ module _ (r : Ring) (g : Graph r) (G : IsGraph r g) where
   unfolding HasShape
   own_shape r' c B s = ((refl, refl, λ j h. s.2 j (subst (λ k. j < k) s.1 h) ∙ sym s.0), s.0, s.1)
 
-  pub twisted_is : (e units left : ℕ) (h : Graph r) → Ends (twisted_graph r e g units) h left → IsGraph r h × (h.matrix ≡ matrix_twist r.prime r.vars e A)
+  pub twisted_is : (e units left : ℕ) (h : Graph r) → Ends (twisted_graph r e g units) h left → IsCompletedGraph r h × (h.matrix ≡ matrix_twist r.prime r.vars e A)
   unfolding twisted_graph
   twisted_is e units left h ends =
       let made : Graph r = record { matrix = matrix_twist r.prime r.vars e A; members = map (twisted (prime_value r.prime ^ e)) g.members; log = g.log } in
       let same : made ≡ h = bounded_value _ made h units left ends in
       let shape = own_shape A.rows (width r g) (matrix_twist r.prime r.vars e A) (twisted_shape e) in
       let rows : rows_of r g ≡ rows_of r made = ap₂ (λ x y. x + y) (sym shape.1) (sym shape.2) in
-      let is : IsGraph r made = record {
+      let is : IsCompletedGraph r made = record {
         shape = shape.0;
         vectors = subst (λ k. AreVectors r k made.members) rows (twisted_vectors (rows_of r g) e g.members G.vectors);
         basis = subst (λ k. IsGraphBasis r.prime r.vars r.order made.matrix (vectors_of r.prime r.vars k made.members)) rows
             (subst (IsGraphBasis r.prime r.vars r.order made.matrix) (twisted_members (rows_of r g) e g.members) (twists.twisted_graph r.prime r.vars r.order e A (vectors_of r.prime r.vars (rows_of r g) g.members) G.basis));
       } in
-      (subst (IsGraph r) same is, sym (ap (λ (x : Graph r). x.matrix) same))
+      (subst (IsCompletedGraph r) same is, sym (ap (λ (x : Graph r). x.matrix) same))

@@ -1,23 +1,11 @@
 -- The falling list of a vector of polynomials falls, and means the vector.
-use Rattle.std.proofs.Common.{ℕ, zero, suc, ◌+◌, ◌%◌, ◌<◌, ◌≤◌, ◌==◌, ◌&&◌, ◌≡◌, ◌⊎◌, inl, inr, if◌then◌else◌, Bool, true, false, T, List, [], ◌∷◌, map, length, Option, Some, None, refl, sym, ap, ap₂, ◌∙◌, subst, arith, eq-eqb, mod-eq_of_lt}
-use Rattle.std.proofs.lemmas.Bool.{false≢true, or_left, or_right}
-use Rattle.std.specs.Ordering.{is_lt, is_eq}
-use Rattle.std.specs.List.{list_any}
-use Rattle.std.specs.Cmp.{tied_itself}
-use Rattle.std.specs.Cmp.Lexicographic.{nat_list_cmp_total}
-use Rattle.std.specs.FinMap as maps
-use Rattle.std.specs.FinMap.{is_sorted}
-use native.Mathlib.Decide.{ℕ_discrete}
-use Rattle.fm_gfp.specs.Primes.{prime_value}
+use Rattle.std.proofs.Common.{ℕ, zero, suc, ◌+◌, ◌<◌, ◌≤◌, ◌==◌, ◌≡◌, ◌⊎◌, inl, inr, false, List, [], ◌∷◌, map, length, refl, sym, ap, ap₂, ◌∙◌, arith, eq-eqb}
 use Rattle.fm_gfp.specs.declared.prime.Prime.{Prime}
 use Rattle.fm_algebra.specs.Matrix.{component}
-use Rattle.fm_algebra.specs.Gf.{gf, same_residue}
-use Rattle.std.proofs.Math.Nat.{zero-mod}
-use Rattle.fm_algebra.specs.Poly.{coeff, tuple_cmp, tuple_eq, Among, same_tuple}
+use Rattle.fm_algebra.specs.Poly.{Among}
 use Rattle.fm_algebra.specs.PolyRing.{support}
-use Rattle.fm_algebra.specs.Polynomials.{Polynomial, polynomials, coefficient, polynomial_zero, polynomial_of, listed_coefficient}
-use Rattle.fm_algebra.proofs.Poly.{support_covers}
-use Rattle.fm_algebra.proofs.PolynomialWords.{coefficient_below, same_coefficients}
+use Rattle.fm_algebra.specs.Polynomials.{Polynomial, polynomials, coefficient, polynomial_zero, polynomial_of}
+use Rattle.fm_algebra.proofs.PolynomialWords.{coefficient_below}
 use Rattle.fm_algebra.proofs.Places.{at_place, sum_of_places}
 use Rattle.fm_algebra.proofs.Concrete.{polynomials_laws}
 use Rattle.fm_term.specs.Meanings.{vector_of}
@@ -33,9 +21,6 @@ use Rattle.fm_vec.specs.Components.{vector_meaning}
 use Rattle.fm_groebner.proofs.NormalForms.{terms_unique}
 use Rattle.fm_graphs.specs.Listing.{VectorOf, with_terms, terms_from, terms_of}
 use Rattle.fm_complete.proofs.Meanings.{part_is, meaning_is}
-use Rattle.std.specs.Option.{unwrap_or}
-use Rattle.std.specs.Prelude.{is_some}
-use Rattle.fm_gfp.proofs.Residues.{prime_positive}
 use Rattle.std.proofs.lemmas.Bool.Decides.{nat_tests}
 
 -- ---- vectors

@@ -28,7 +28,8 @@ use Rattle.fm_graphs.specs.Trims.{is_zero, trimmed, is_nonzero, Preimage, part, 
 use Rattle.fm_run.proofs.Ends.{Ends, same_value, bound}
 use Rattle.fm_graphs.proofs.Listing.{terms_mean}
 use Rattle.fm_graphs.proofs.Columns.{AllLong, shape_of, in_place, Solved, Spanned, span_own, span_within, solutions_shaped, solutions_product}
-use Rattle.fm_graphs.proofs.Graphs.{IsGraph, graph_is, in_filter, filter_in, syzygies_generate, syzygies_long}
+use Rattle.fm_graphs.specs.Graphs.{IsCompletedGraph}
+use Rattle.fm_graphs.proofs.Graphs.{graph_is, in_filter, filter_in, syzygies_generate, syzygies_long}
 use Rattle.fm_graphs.proofs.Lifts.{lifted_solves}
 use Rattle.fm_graphs.proofs.Trims.{Trimmed, trimmed_is}
 use Rattle.fm_graphs.proofs.Joins.{preimage_is}
@@ -141,7 +142,7 @@ module _ (r : Ring) where
     pub whole : P.whole ≡ g
     pub found_shape : HasShape r.prime r.vars a (length P.found.columns) P.found
     pub x_shape : HasShape r.prime r.vars b (length P.found.columns) P.x
-    pub graph : IsGraph r P.graph
+    pub graph : IsCompletedGraph r P.graph
     pub graph_matrix : P.graph.matrix ≡ P.found
     pub kernel : (j : ℕ) → j < length P.found.columns → InKernel r.prime r.vars g.matrix (get_or P.found.columns j [] ++ get_or P.x.columns j [])
     pub w_shape : HasShape r.prime r.vars (length P.found.columns) (length (syzygies r g).columns) P.w
@@ -149,7 +150,7 @@ module _ (r : Ring) where
     pub generates : (v : Vec) → InImage r.prime r.vars P.found v ↔ ((u : Vec) × (length u ≡ b) × (length v ≡ a) × InKernel r.prime r.vars g.matrix (v ++ u))
     pub free : (xs ys : List Vec) (v : Vec) → P.found.columns ≡ xs ++ v ∷ ys → ¬ (Span a (xs ++ ys) v)
 
-  module _ (a b : ℕ) (g : Graph r) (G : IsGraph r g) (wide : width r g ≡ a + b) where
+  module _ (a b : ℕ) (g : Graph r) (G : IsCompletedGraph r g) (wide : width r g ≡ a + b) where
     abbrev S : List Vec
     S = (syzygies r g).columns
 
@@ -223,7 +224,7 @@ module _ (r : Ring) where
       abbrev made : (W : MatrixOf r) (h : Graph r) → Preimage r
       made W h = record { whole = g; found = found; x = part r b (drop a) kept; w = W; graph = h }
 
-      generating_made : (W : MatrixOf r) (h : Graph r) (H : IsGraph r h) → h.matrix ≡ found → (units left : ℕ) → Ends (lifted r h (map (take a) S) units) W left → Generating a b g (made W h)
+      generating_made : (W : MatrixOf r) (h : Graph r) (H : IsCompletedGraph r h) → h.matrix ≡ found → (units left : ℕ) → Ends (lifted r h (map (take a) S) units) W left → Generating a b g (made W h)
       generating_made W h H e units left ends =
           let long_s : AllLong r.prime r.vars a (map (take a) S) = (λ v i. let x = in_of_map (take a) S i in ap length (sym x.2) ∙ upper_long x.0 x.1) in
           let inside : (v : Vec) → In (map (take a) S) v → InImage r.prime r.vars found v = (λ v i. let x = in_of_map (take a) S i in subst (Span a (map (take a) kept)) x.2 (all_spanned x.0 x.1)) in
@@ -270,7 +271,7 @@ module _ (r : Ring) where
   rows_shape k c B s = s.0
 
   -- from the completed graph of A, generators of its kernel
-  pub kernel_from : (g : Graph r) → IsGraph r g → (units left : ℕ) (Q : Preimage r) → Ends (generating r (width r g) 0 g units) Q left → GeneratesKernel r.prime r.vars Q.found g.matrix
+  pub kernel_from : (g : Graph r) → IsCompletedGraph r g → (units left : ℕ) (Q : Preimage r) → Ends (generating r (width r g) 0 g units) Q left → GeneratesKernel r.prime r.vars Q.found g.matrix
   unfolding InKernel
   kernel_from g G units left Q ends w =
       let D = generating_is (width r g) 0 g G (plain (width r g)) units left Q ends in (
@@ -290,7 +291,7 @@ module _ (r : Ring) where
       none (x ∷ u) l = absurd (omega arith)
 
   pub record IsKernel (A : MatrixOf r) (Q : Preimage r) : Type 0 where
-    pub whole : IsGraph r Q.whole
+    pub whole : IsCompletedGraph r Q.whole
     pub matrix : Q.whole.matrix ≡ A
     pub generating : Generating (length A.columns) 0 Q.whole Q
     pub generates : GeneratesKernel r.prime r.vars Q.found A
@@ -303,7 +304,7 @@ module _ (r : Ring) where
       let wide : width r b.value ≡ length A.columns = ap (λ (M : MatrixOf r). length M.columns) g.1 in
       let D = generating_is (length A.columns) 0 b.value g.0 (wide ∙ plain (length A.columns)) b.between left Q b.second in
       record {
-        whole = subst (IsGraph r) (sym D.whole) g.0;
+        whole = subst (IsCompletedGraph r) (sym D.whole) g.0;
         matrix = ap (λ (h : Graph r). h.matrix) D.whole ∙ g.1;
         generating = subst (λ h. Generating (length A.columns) 0 h Q) (sym D.whole) D;
         generates = subst (GeneratesKernel r.prime r.vars Q.found) g.1 (kernel_from b.value g.0 b.between left Q (subst (λ a. Ends (generating r a 0 b.value b.between) Q left) (sym wide) b.second));
@@ -313,7 +314,7 @@ module _ (r : Ring) where
       plain a = omega arith
 
   pub record IsPreimage (A B : MatrixOf r) (Q : Preimage r) : Type 0 where
-    pub whole : IsGraph r Q.whole
+    pub whole : IsCompletedGraph r Q.whole
     pub matrix : Q.whole.matrix ≡ matrix_beside r.prime r.vars A B
     pub generating : Generating (length A.columns) (length B.columns) Q.whole Q
     pub generates : GeneratesPreimage r.prime r.vars Q.found A B
@@ -334,7 +335,7 @@ module _ (r : Ring) where
       let D = generating_is (length A.columns) (length B.columns) x.value g.0 wide x.between left Q x.second in
       let joins = preimage_is r.prime r.vars A B (rows_shape k b B t ∙ sym (rows_shape k a A s)) in
       record {
-        whole = subst (IsGraph r) (sym D.whole) g.0;
+        whole = subst (IsCompletedGraph r) (sym D.whole) g.0;
         matrix = ap (λ (h : Graph r). h.matrix) D.whole ∙ g.1;
         generating = subst (λ h. Generating (length A.columns) (length B.columns) h Q) (sym D.whole) D;
         generates = λ w. (

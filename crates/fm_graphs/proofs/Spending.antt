@@ -1,29 +1,22 @@
 -- Runs spend units and make none; a turn that goes on has spent one.
-use Rattle.std.proofs.Common.{ℕ, zero, suc, ◌<◌, ◌≤◌, ◌≡◌, if◌then◌else◌, Bool, true, false, List, [], ◌∷◌, Err, ap, arith}
+use Rattle.std.proofs.Common.{ℕ, suc, ◌<◌, ◌≡◌, if◌then◌else◌, Bool, true, false, List, [], ◌∷◌, ap, arith}
 use Rattle.fm_poly.specs.declared.ring.Ring.{Ring}
-use Rattle.fm_term.specs.declared.vterm.VTerm.{VTerm}
-use Rattle.fm_vec.specs.Multiples.{s_vector_fits, s_vector_of}
-use Rattle.fm_run.specs.Runs.{Budget, Exponent}
 use Rattle.fm_run.specs.Runs.{Ended}
-use Rattle.fm_complete.specs.Reductions.{Reduced, reduced, divided}
+use Rattle.fm_complete.specs.Reductions.{Reduced, divided}
 use Rattle.fm_run.specs.Runs.{ready, ◌>>=◌, each}
-use Rattle.fm_run.specs.Turns.{again, repeated}
 use Rattle.std.proofs.Common.{◌++◌, map, length, take, drop, subst}
 use Rattle.std.specs.List.{filter}
 use Rattle.fm_algebra.specs.PolynomialMatrices.{matrix_beside, matrix_twist}
 use Rattle.fm_groebner.specs.Graphs.{graph, zero_vector}
-use Rattle.fm_groebner.specs.Logs.{Entry, Input, Pair}
-use Rattle.fm_complete.specs.Trails.{member_at}
-use Rattle.fm_complete.specs.declared.critical_pair.CriticalPair.{CriticalPair}
-use Rattle.fm_complete.specs.Completions.{Completion, skipping, numbers, kept, taken_up, with_inputs, s_divided, pair_formed, pair_turn, next_pair, completed}
+use Rattle.fm_complete.specs.Completions.{numbers, completed}
 use Rattle.fm_graphs.specs.Listing.{VectorOf, terms_of}
 use Rattle.fm_graphs.specs.Graphs.{MatrixOf, Graph, Outside, Inside, all_inside, first_outside, width, graph_run, syzygies, lift_run, is_inside, solution, lifted, with_solution, inside_from}
 use Rattle.fm_graphs.specs.Bounds.{twisted_matrix}
 use Rattle.fm_mat.specs.Bounds.{entries_fit}
 use Rattle.fm_run.specs.Runs.{Spends}
 use Rattle.fm_complete.proofs.CompletionSpending.{completed_spends}
-use Rattle.fm_run.proofs.Spending.{ready_spends, then_spends, each_spends, bounded_spends, turns_spend}
-use Rattle.fm_complete.proofs.Spending.{reduced_spends, divided_run_spends, divided_spends}
+use Rattle.fm_run.proofs.Spending.{ready_spends, then_spends, each_spends, bounded_spends}
+use Rattle.fm_complete.proofs.Spending.{divided_run_spends, divided_spends}
 use Rattle.fm_run.proofs.Ends.{Ends, same_value, bound}
 use Rattle.fm_graphs.specs.Trims.{is_zero, spanned, trimmed_after, trimmed, is_nonzero, part, generating, preimage_run}
 

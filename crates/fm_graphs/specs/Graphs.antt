@@ -2,14 +2,16 @@
 use Rattle.std.specs.Prelude.{ℕ, suc, ◌^◌, ◌&&◌, if◌then◌else◌, nat_lt, Bool, true, List, [], ◌∷◌, ◌++◌, map, length}
 use Rattle.std.specs.List.{list_all, filter}
 use Rattle.fm_gfp.specs.Primes.{prime_value}
-use Rattle.fm_algebra.specs.PolynomialMatrices.{PolynomialMatrix, matrix_twist, matrix_unit}
-use Rattle.fm_groebner.specs.Graphs.{graph, zero_vector, vector_negative}
+use Rattle.fm_algebra.specs.PolynomialMatrices.{PolynomialMatrix, HasShape, matrix_twist, matrix_unit}
+use Rattle.fm_groebner.specs.Graphs.{graph, graph_rows, IsGraphBasis, zero_vector, vector_negative}
 use Rattle.fm_groebner.specs.Logs.{Entry}
 use Rattle.fm_poly.specs.declared.ring.Ring.{Ring}
 use Rattle.fm_term.specs.declared.vterm.VTerm.{VTerm}
 use Rattle.fm_term.specs.Multiples.{twisted}
 use Rattle.fm_vec.specs.Multiples.{twist_fits}
 use Rattle.fm_vec.specs.Components.{components_meaning}
+use Rattle.fm_term.specs.Meanings.{vectors_of}
+use Rattle.fm_complete.specs.Combinations.{AreVectors}
 use Rattle.fm_complete.specs.Reductions.{Reduced, divided}
 use Rattle.fm_run.specs.Runs.{Work, ready, ◌>>=◌, each, bounded}
 use Rattle.fm_complete.specs.Completions.{completed, numbers}
@@ -44,6 +46,12 @@ is_below m (t ∷ ts) = nat_lt m t.component
 module _ (r : Ring) where
   abbrev pub width : Graph r → ℕ
   width g = length g.matrix.columns
+
+  -- the members are vectors, and a Gröbner basis of the graph of the matrix
+  pub record IsCompletedGraph (g : Graph r) : Type 0 where
+    pub shape : HasShape r.prime r.vars g.matrix.rows (width g) g.matrix
+    pub vectors : AreVectors r (graph_rows r.prime r.vars g.matrix) g.members
+    pub basis : IsGraphBasis r.prime r.vars r.order g.matrix (vectors_of r.prime r.vars (graph_rows r.prime r.vars g.matrix) g.members)
 
   -- GRAPH(A)
   unfoldable pub graph_run : MatrixOf r → Work (Graph r)

@@ -12,7 +12,7 @@ use Rattle.fm_run.specs.Runs.{ready, ◌>>=◌}
 use Rattle.fm_graphs.specs.Graphs.{MatrixOf, Graph, Inside, all_inside, first_outside}
 use Rattle.fm_run.proofs.Ends.{Ends, same_value, bound}
 use Rattle.fm_graphs.proofs.Columns.{solved_image}
-use Rattle.fm_graphs.proofs.Graphs.{IsGraph}
+use Rattle.fm_graphs.specs.Graphs.{IsCompletedGraph}
 use Rattle.fm_graphs.proofs.Lifts.{Says}
 use Rattle.fm_run.specs.declared.task.Side.{Side}
 use Rattle.fm_plan.specs.Results.{Resolution, Ext, Ideal, resolved, kernels, stable_index}
@@ -24,7 +24,7 @@ use Rattle.fm_plan.proofs.Exts.{ext_is}
 use Rattle.fm_plan.proofs.Chains.{LinkGraphs, chain_from}
 
 -- the answer of INSIDE tells whether the columns lie in the image
-pub says_decides : (r : Ring) (g : Graph r) (G : IsGraph r g) (M : MatrixOf r) (y : Inside r) → Says r g G 1 M.columns y → IsTrue (is_yes r y) ↔ ColumnsInImage r.prime r.vars g.matrix M
+pub says_decides : (r : Ring) (g : Graph r) (G : IsCompletedGraph r g) (M : MatrixOf r) (y : Inside r) → Says r g G 1 M.columns y → IsTrue (is_yes r y) ↔ ColumnsInImage r.prime r.vars g.matrix M
 says_decides r g G M (all_inside ws) says = ((λ e. columns_in r g.matrix M (λ v i. solved_image r.prime r.vars g.matrix M.columns ws says v i)), (λ h. refl))
 says_decides r g G M (first_outside o) says = ((λ e. absurd (false≢true e)), (λ h. absurd (says.outside (in_columns r g.matrix M h says.v (in_of_number says.at)))))
 
@@ -39,11 +39,11 @@ module _ (r : Ring) (i : ℕ) (fs : Ideal r) where
   pub record Based (b : BaseOf r) : Type 0 where
     pub facts : DegreeFacts p n i (resolved r fs b.ext) b.ext.cocycles.found b.ext.u (kernels r b.ext b.chain) (stable_index r b.chain)
     pub first : IsFirstRepeat p n (kernels r b.ext b.chain) (stable_index r b.chain)
-    pub stable : IsGraph r b.chain.stable
+    pub stable : IsCompletedGraph r b.chain.stable
     pub resolution : Resolved r i fs b.ext.resolution
-    pub relations : IsGraph r b.ext.relations.graph
+    pub relations : IsCompletedGraph r b.ext.relations.graph
     pub relations_matrix : b.ext.relations.graph.matrix ≡ b.ext.relations.found
-    pub cocycles : IsGraph r b.ext.cocycles.graph
+    pub cocycles : IsCompletedGraph r b.ext.cocycles.graph
     pub cocycles_matrix : b.ext.cocycles.graph.matrix ≡ b.ext.cocycles.found
     pub links : LinkGraphs r b.chain.links
     pub count : length b.chain.links ≡ suc (stable_index r b.chain)

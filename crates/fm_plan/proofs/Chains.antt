@@ -16,7 +16,7 @@ use Rattle.fm_graphs.specs.Bounds.{twisted_matrix}
 use Rattle.fm_graphs.specs.Trims.{Preimage, preimage_run}
 use Rattle.fm_run.proofs.Ends.{Ends, same_value, bound, bounded_value, Leads, turns_lead}
 use Rattle.fm_graphs.proofs.Columns.{solved_image}
-use Rattle.fm_graphs.proofs.Graphs.{IsGraph}
+use Rattle.fm_graphs.specs.Graphs.{IsCompletedGraph}
 use Rattle.fm_graphs.proofs.Lifts.{Says, inside_is}
 use Rattle.fm_graphs.proofs.Preimages.{IsPreimage, preimage_run_is}
 use Rattle.fm_run.specs.declared.task.Side.{Side}
@@ -58,9 +58,9 @@ module _ (r : Ring) where
   -- each link has a completed graph
   abbrev pub LinkGraphs : List (Preimage r) → Type 0
   LinkGraphs [] = Unit {0}
-  LinkGraphs (x ∷ xs) = IsGraph r x.graph × (x.graph.matrix ≡ x.found) × LinkGraphs xs
+  LinkGraphs (x ∷ xs) = IsCompletedGraph r x.graph × (x.graph.matrix ≡ x.found) × LinkGraphs xs
 
-  graphs_more : (xs : List (Preimage r)) (x : Preimage r) → LinkGraphs xs → IsGraph r x.graph → x.graph.matrix ≡ x.found → LinkGraphs (xs ++ x ∷ [])
+  graphs_more : (xs : List (Preimage r)) (x : Preimage r) → LinkGraphs xs → IsCompletedGraph r x.graph → x.graph.matrix ≡ x.found → LinkGraphs (xs ++ x ∷ [])
   graphs_more [] x a g e = (g, e, tt)
   graphs_more (y ∷ xs) x a g e = (a.0, a.1, graphs_more xs x a.2 g e)
 
@@ -79,7 +79,7 @@ module _ (r : Ring) (side : Side) (U N : MatrixOf r) (square : HasShape r.prime 
 
   -- the chain through K_s, which has not repeated yet
   record ChainTo (c : Links r) : Type 0 where
-    graph : IsGraph r c.graph
+    graph : IsCompletedGraph r c.graph
     matrix : c.graph.matrix ≡ matrix_at p n (Members c.links) (length c.links)
     count : length c.growth ≡ length c.links
     chain : IsChain p n U (Members c.links) (length c.links)
@@ -88,7 +88,7 @@ module _ (r : Ring) (side : Side) (U N : MatrixOf r) (square : HasShape r.prime 
 
   -- the whole chain
   pub record Repeats (c : Chain r) : Type 0 where
-    pub graph : IsGraph r c.stable
+    pub graph : IsCompletedGraph r c.stable
     pub matrix : c.stable.matrix ≡ matrix_at p n (Members c.links) (length c.growth)
     pub chain : IsChain p n U (Members c.links) (suc (length c.growth))
     pub repeats : ColumnsInImage p n (matrix_at p n (Members c.links) (length c.growth)) (matrix_at p n (Members c.links) (suc (length c.growth)))
@@ -170,7 +170,7 @@ module _ (r : Ring) (side : Side) (U N : MatrixOf r) (square : HasShape r.prime 
       let says = inside_is r c.graph C.graph x.found (length x.found.columns) (subst (λ k. HasShape p n k (length x.found.columns) x.found) (sym (shape_rows p n g (width r c.graph) c.graph.matrix member)) J.generating.found_shape) b.between d.between d.value d.first in
       subst (Leads (out_of_units side ChainTask) (chain_turn r side U) ChainTo Repeats) (same_value (linked r c x d.value) t d.between left d.second) (linked_leads c C x J d.value says)
 
-  pub chain_from : (g : Graph r) → IsGraph r g → g.matrix ≡ N → HasShape p n (length U.columns) (length N.columns) N → (units left : ℕ) (c : Chain r)
+  pub chain_from : (g : Graph r) → IsCompletedGraph r g → g.matrix ≡ N → HasShape p n (length U.columns) (length N.columns) N → (units left : ℕ) (c : Chain r)
       → Ends (repeated (out_of_units side ChainTask) (chain_turn r side U) (record { links = []; growth = []; graph = g }) units) c left → Repeats c
   unfolding matrix_at
   chain_from g G e shape units left c ends = turns_lead (out_of_units side ChainTask) (chain_turn r side U) ChainTo Repeats turn_leads units (record { links = []; growth = []; graph = g }) units left c (record {

@@ -25,7 +25,8 @@ use Rattle.fm_graphs.specs.Graphs.{MatrixOf, Graph, Outside, width, lift_run, is
 use Rattle.fm_graphs.specs.Bounds.{multiplied, twisted_matrix}
 use Rattle.fm_graphs.specs.Trims.{Preimage, is_zero}
 use Rattle.fm_run.proofs.Ends.{Ends, same_value, no_value, bound, bounded_value}
-use Rattle.fm_graphs.proofs.Graphs.{IsGraph, lift_solves, lift_decides}
+use Rattle.fm_graphs.specs.Graphs.{IsCompletedGraph}
+use Rattle.fm_graphs.proofs.Graphs.{lift_solves, lift_decides}
 use Rattle.fm_graphs.proofs.Lifts.{twisted_is}
 use Rattle.fm_graphs.proofs.Preimages.{zero_terms}
 use Rattle.fm_run.specs.declared.task.Side.TheVariants.{Alone}
@@ -70,7 +71,7 @@ module _ (r : Ring) where
 
   -- ---- coordinates
   module _ (i : ℕ) (I : ResolvedIdeal p n) (Z U : MatrixOf r) (Ks : List (MatrixOf r)) (t : ℕ) (X : DegreeFacts p n i I Z U Ks t) where
-    coordinates_are : (g : Graph r) → IsGraph r g → g.matrix ≡ Z → (e : ℕ) (z : VectorOf r) → IsClass p n i I e z → (units left : ℕ) (y : Graph r × Reduced) → Ends (lift_at r e g z units) y left → AreCoordinates p n Z e z (solution_at r y)
+    coordinates_are : (g : Graph r) → IsCompletedGraph r g → g.matrix ≡ Z → (e : ℕ) (z : VectorOf r) → IsClass p n i I e z → (units left : ℕ) (y : Graph r × Reduced) → Ends (lift_at r e g z units) y left → AreCoordinates p n Z e z (solution_at r y)
     unfolding lift_at InImage vector_product
     coordinates_are g G is e z class units left y ends =
         let a = bound (twisted_graph r e g) (λ h. lift_run r h z >>= λ x. ready (h, x)) units left y ends in
@@ -96,16 +97,16 @@ module _ (r : Ring) where
     -- the graphs of K_s, K_(s+1), .., each with as many rows as w has entries
     abbrev StageGraphs : ℕ → List (Graph r) → Type 0
     StageGraphs s [] = Unit {0}
-    StageGraphs s (g ∷ gs) = IsGraph r g × (g.matrix ≡ matrix_at p n Ks s) × (length w ≡ g.matrix.rows) × StageGraphs (suc s) gs
+    StageGraphs s (g ∷ gs) = IsCompletedGraph r g × (g.matrix ≡ matrix_at p n Ks s) × (length w ≡ g.matrix.rows) × StageGraphs (suc s) gs
 
     abbrev KilledSays : ℕ → Killed r → Type 0
     KilledSays end (killed_at s v before) = (s < end) × Dies s × ((k : ℕ) → k < s → ¬ (Dies k))
     KilledSays end (never_killed before) = (k : ℕ) → k < end → ¬ (Dies k)
 
-    twisted_rows : (g : Graph r) → IsGraph r g → (h : Graph r) → h.matrix ≡ matrix_twist p n e g.matrix → g.matrix.rows ≡ h.matrix.rows
+    twisted_rows : (g : Graph r) → IsCompletedGraph r g → (h : Graph r) → h.matrix ≡ matrix_twist p n e g.matrix → g.matrix.rows ≡ h.matrix.rows
     twisted_rows g G h is = sym (ap (λ (A : MatrixOf r). A.rows) is ∙ shape_rows p n g.matrix.rows (width r g) (matrix_twist p n e g.matrix) (twist_fits p n e g.matrix.rows (width r g) g.matrix G.shape))
 
-    lifts_decide : (g : Graph r) → IsGraph r g → (s : ℕ) → g.matrix ≡ matrix_at p n Ks s → length w ≡ g.matrix.rows → (x : Graph r × Reduced) (units left : ℕ) → Ends (lift_at r e g w units) x left → Dies s ↔ (is_inside r x.0 x.1 ≡ true)
+    lifts_decide : (g : Graph r) → IsCompletedGraph r g → (s : ℕ) → g.matrix ≡ matrix_at p n Ks s → length w ≡ g.matrix.rows → (x : Graph r × Reduced) (units left : ℕ) → Ends (lift_at r e g w units) x left → Dies s ↔ (is_inside r x.0 x.1 ≡ true)
     unfolding lift_at
     lifts_decide g G s is l x units left ends =
         let a = bound (twisted_graph r e g) (λ h. lift_run r h w >>= λ x. ready (h, x)) units left x ends in

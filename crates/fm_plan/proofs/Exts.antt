@@ -15,7 +15,7 @@ use Rattle.fm_graphs.specs.Bounds.{multiplied}
 use Rattle.fm_graphs.specs.Trims.{Preimage, kernel_run, preimage_run}
 use Rattle.fm_run.proofs.Ends.{Ends, same_value, bound, bounded_value}
 use Rattle.fm_graphs.proofs.Columns.{AllLong, column_length, solutions_shaped, solutions_product}
-use Rattle.fm_graphs.proofs.Graphs.{IsGraph}
+use Rattle.fm_graphs.specs.Graphs.{IsCompletedGraph}
 use Rattle.fm_graphs.proofs.Lifts.{lifted_solves, twisted_is}
 use Rattle.fm_graphs.proofs.Preimages.{own_shape, IsKernel, kernel_is, IsPreimage, preimage_run_is}
 use Rattle.fm_run.specs.declared.task.Side.{Side}
@@ -53,7 +53,7 @@ module _ (r : Ring) (side : Side) (i : ℕ) (fs : Ideal r) (x : Resolution r) (X
   d_shape = R.fits i (let c = R.count in omega (arith, c))
 
   -- U
-  module _ (ts : List (MatrixOf r)) (f : IsFrobeniusLiftOf p n i ds ts) (z : Graph r) (G : IsGraph r z) (g : ℕ) (z_shape : HasShape p n mid g z.matrix) (cocycles : GeneratesKernel p n z.matrix (flip r d)) where
+  module _ (ts : List (MatrixOf r)) (f : IsFrobeniusLiftOf p n i ds ts) (z : Graph r) (G : IsCompletedGraph r z) (g : ℕ) (z_shape : HasShape p n mid g z.matrix) (cocycles : GeneratesKernel p n z.matrix (flip r d)) where
     abbrev theta : MatrixOf r
     theta = matrix_at p n ts i
 

@@ -27,7 +27,8 @@ use Rattle.fm_graphs.specs.Trims.{is_zero}
 use Rattle.fm_run.proofs.Ends.{Ends, same_value, bound, bounded_value}
 use Rattle.fm_complete.proofs.PendingPairs.{in_cases}
 use Rattle.fm_graphs.proofs.Columns.{AllLong, column_length, shape_of, Spanned, solutions_shaped, solutions_product}
-use Rattle.fm_graphs.proofs.Graphs.{IsGraph, Basis, completed_columns}
+use Rattle.fm_graphs.specs.Graphs.{IsCompletedGraph}
+use Rattle.fm_graphs.proofs.Graphs.{Basis, completed_columns}
 use Rattle.fm_graphs.proofs.Lifts.{lifted_solves}
 use Rattle.fm_graphs.proofs.Trims.{basis_decides}
 use Rattle.fm_run.specs.declared.task.Side.TheVariants.{Alone}
@@ -124,7 +125,7 @@ module _ (r : Ring) where
     }
 
     -- one task
-    work_is : (g : Graph r) → IsGraph r g → (j : ℕ) (ls : List (MatrixOf r)) → j < i → g.matrix ≡ matrix_at p n us j → IsLiftOfIdentityOf p n j ds us ls → (units left : ℕ) (t : MatrixOf r)
+    work_is : (g : Graph r) → IsCompletedGraph r g → (j : ℕ) (ls : List (MatrixOf r)) → j < i → g.matrix ≡ matrix_at p n us j → IsLiftOfIdentityOf p n j ds us ls → (units left : ℕ) (t : MatrixOf r)
         → Ends ((multiplied p n (matrix_at p n ls j) (matrix_at p n ds j) >>= λ B. lifted r g B.columns) units) t left → IsLiftOfIdentityOf p n (suc j) ds us (ls ++ t ∷ [])
     unfolding multiplied
     work_is g G j ls h e f units left t ends =
@@ -214,7 +215,7 @@ module _ (r : Ring) where
 
     -- ---- Phi
     module _ (ls : List (MatrixOf r)) (f : IsLiftOfIdentityOf p n i ds us ls) (gS gT : ℕ) (ZS ZT : MatrixOf r) (s_shape : HasShape p n (rank p n us i) gS ZS) (t_shape : HasShape p n (rank p n ds i) gT ZT)
-        (kS : GeneratesKernel p n ZS (flip r (matrix_at p n us i))) (kT : GeneratesKernel p n ZT (flip r (matrix_at p n ds i))) (z : Graph r) (G : IsGraph r z) (is : z.matrix ≡ ZT) where
+        (kS : GeneratesKernel p n ZS (flip r (matrix_at p n us i))) (kT : GeneratesKernel p n ZT (flip r (matrix_at p n ds i))) (z : Graph r) (G : IsCompletedGraph r z) (is : z.matrix ≡ ZT) where
       abbrev mS : ℕ
       mS = rank p n us i
 

@@ -20,7 +20,7 @@ use Rattle.fm_run.specs.Turns.{Turn, last}
 use Rattle.fm_graphs.specs.Graphs.{MatrixOf, Graph, Outside, Inside, all_inside, first_outside, width, lifted, inside_run, whole_run}
 use Rattle.fm_graphs.specs.Trims.{Preimage, preimage_run}
 use Rattle.fm_run.proofs.Ends.{Ends, same_value, bound, Leads, turns_lead}
-use Rattle.fm_graphs.proofs.Graphs.{IsGraph}
+use Rattle.fm_graphs.specs.Graphs.{IsCompletedGraph}
 use Rattle.fm_graphs.proofs.Lifts.{Says, inside_is, whole_is}
 use Rattle.fm_graphs.proofs.Preimages.{IsPreimage, preimage_run_is}
 use Rattle.fm_run.specs.declared.task.Side.TheVariants.{Alone}
@@ -75,7 +75,7 @@ module _ (r : Ring) (K : MatrixOf r) (shape : HasShape r.prime r.vars K.rows (le
 
   -- the colons so far, the last of which isn't everything
   record ColonsTo (c : Colons r) : Type 0 where
-    graph : IsGraph r c.graph
+    graph : IsCompletedGraph r c.graph
     matrix : c.graph.matrix ≡ matrix_at p n (Members c.colons) (length c.colons)
     colons : Partial (Members c.colons) (length c.colons)
     proper : IsEverything p n c.graph.matrix → ⊥
@@ -167,7 +167,7 @@ module _ (r : Ring) (K : MatrixOf r) (shape : HasShape r.prime r.vars K.rows (le
   unfolding matrix_scalar matrix_unit unit_matrix polynomial_power power
   unit_power = refl
 
-  pub coloned_is : (k : Graph r) → IsGraph r k → k.matrix ≡ K → (y : Inside r) → (is_yes r y ≡ true) ↔ IsEverything p n K → (units left : ℕ) (c : Coloned r) → Ends (coloned r f k y units) c left → ColonsSay c
+  pub coloned_is : (k : Graph r) → IsCompletedGraph r k → k.matrix ≡ K → (y : Inside r) → (is_yes r y ≡ true) ↔ IsEverything p n K → (units left : ℕ) (c : Coloned r) → Ends (coloned r f k y units) c left → ColonsSay c
   unfolding matrix_at lead
   coloned_is k G e (all_inside ws) d units left c ends = subst ColonsSay (same_value (whole_at 0) c units left ends) (
     subst (ColumnsInImage p n K) (sym unit_power) (d.0 refl),

@@ -14,7 +14,8 @@ use Rattle.fm_graphs.specs.Graphs.{MatrixOf, Graph, Outside, Inside, all_inside,
 use Rattle.fm_graphs.specs.Bounds.{twisted_matrix}
 use Rattle.fm_graphs.specs.Trims.{Preimage, preimage_run}
 use Rattle.fm_run.proofs.Ends.{Ends, same_value, bound, bounded_value, Leads, turns_lead}
-use Rattle.fm_graphs.proofs.Graphs.{IsGraph, graph_is}
+use Rattle.fm_graphs.specs.Graphs.{IsCompletedGraph}
+use Rattle.fm_graphs.proofs.Graphs.{graph_is}
 use Rattle.fm_graphs.proofs.Lifts.{Says, inside_is, whole_is}
 use Rattle.fm_graphs.proofs.Preimages.{own_shape, IsPreimage, preimage_run_is}
 use Rattle.fm_run.specs.declared.task.Side.TheVariants.{Alone}
@@ -42,10 +43,10 @@ module _ (r : Ring) (N Phi U : MatrixOf r) (rows : ℕ) (square : HasShape r.pri
   OntoSays (onto_at first links w before) = (Ws : List (MatrixOf r)) × JoinFacts p n N Phi U Ws (length links) × IsEverything p n (matrix_at p n Ws (length links)) × ((k : ℕ) → suc k ≡ length links → ¬ (IsEverything p n (matrix_at p n Ws k)))
   OntoSays (never_onto first links w proper) = (Ws : List (MatrixOf r)) × (t : ℕ) × JoinFacts p n N Phi U Ws (suc t) × ColumnsInImage p n (matrix_at p n Ws t) (matrix_at p n Ws (suc t)) × ¬ (IsEverything p n (matrix_at p n Ws t))
 
-  module _ (g : Graph r) (G : IsGraph r g) (is : g.matrix ≡ J) where
+  module _ (g : Graph r) (G : IsCompletedGraph r g) (is : g.matrix ≡ J) where
     -- the members so far, the last of which isn't everything
     record JoinsTo (c : Joins r) : Type 0 where
-      graph : IsGraph r c.graph
+      graph : IsCompletedGraph r c.graph
       matrix : c.graph.matrix ≡ matrix_at p n (Members g c.links) (length c.links)
       chain : IsChain p n U (Members g c.links) (length c.links)
       proper : ¬ (IsEverything p n c.graph.matrix)

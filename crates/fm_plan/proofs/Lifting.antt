@@ -15,7 +15,7 @@ use Rattle.fm_graphs.specs.Bounds.{multiplied, twisted_matrix}
 use Rattle.fm_graphs.specs.Trims.{Preimage}
 use Rattle.fm_run.proofs.Ends.{Ends, same_value, bound, bounded_value}
 use Rattle.fm_graphs.proofs.Columns.{AllLong, column_length, solutions_shaped, solutions_product}
-use Rattle.fm_graphs.proofs.Graphs.{IsGraph}
+use Rattle.fm_graphs.specs.Graphs.{IsCompletedGraph}
 use Rattle.fm_graphs.proofs.Lifts.{lifted_solves}
 use Rattle.fm_run.specs.declared.task.Side.{Side}
 use Rattle.fm_run.specs.declared.task.Name.TheVariants.{Lift}
@@ -73,7 +73,7 @@ module _ (r : Ring) (fs : Ideal r) (i : ℕ) (ds : List (MatrixOf r)) (R : IsRes
   n = r.vars
 
   -- one task
-  work_is : (g : Graph r) → IsGraph r g → (j : ℕ) (ts : List (MatrixOf r)) → j < i → g.matrix ≡ matrix_at p n ds j → IsFrobeniusLiftOf p n j ds ts → (units left : ℕ) (t : MatrixOf r)
+  work_is : (g : Graph r) → IsCompletedGraph r g → (j : ℕ) (ts : List (MatrixOf r)) → j < i → g.matrix ≡ matrix_at p n ds j → IsFrobeniusLiftOf p n j ds ts → (units left : ℕ) (t : MatrixOf r)
       → Ends (lift_work r (matrix_at p n ts j) g units) t left → IsFrobeniusLiftOf p n (suc j) ds (ts ++ t ∷ [])
   unfolding lift_work twisted_matrix multiplied
   work_is g G j ts h e f units left t ends =
@@ -101,7 +101,7 @@ module _ (r : Ring) (fs : Ideal r) (i : ℕ) (ds : List (MatrixOf r)) (R : IsRes
   -- the graphs of d_(j+1), d_(j+2), ..
   abbrev pub GraphsFrom : ℕ → List (Graph r) → Type 0
   GraphsFrom j [] = Unit {0}
-  GraphsFrom j (g ∷ gs) = IsGraph r g × (g.matrix ≡ matrix_at p n ds j) × (j < i) × GraphsFrom (suc j) gs
+  GraphsFrom j (g ∷ gs) = IsCompletedGraph r g × (g.matrix ≡ matrix_at p n ds j) × (j < i) × GraphsFrom (suc j) gs
 
   lifting_is : (side : Side) (j k : ℕ) (ts : List (MatrixOf r)) (gs : List (Graph r)) → GraphsFrom j gs → IsFrobeniusLiftOf p n j ds ts → (theta : MatrixOf r) → matrix_at p n ts j ≡ theta
       → (units left : ℕ) (later : List (MatrixOf r)) → Ends (lifting r side k theta gs units) later left → IsFrobeniusLiftOf p n (j + length gs) ds (ts ++ later)
@@ -131,7 +131,7 @@ module _ (r : Ring) (fs : Ideal r) (i : ℕ) (x : Resolution r) (X : Resolved r 
   abbrev ds : List (MatrixOf r)
   ds = differentials_of r x
 
-  pub graphs_at : (k j : ℕ) (g : Graph r) (xs : List (Preimage r)) → IsGraph r g → Resolves r g xs → ((l : ℕ) → matrix_at r.prime r.vars (matrices_from r g xs) l ≡ matrix_at r.prime r.vars ds (j + l)) → j + k ≤ i → k ≤ suc (length xs)
+  pub graphs_at : (k j : ℕ) (g : Graph r) (xs : List (Preimage r)) → IsCompletedGraph r g → Resolves r g xs → ((l : ℕ) → matrix_at r.prime r.vars (matrices_from r g xs) l ≡ matrix_at r.prime r.vars ds (j + l)) → j + k ≤ i → k ≤ suc (length xs)
       → GraphsFrom r fs i ds X.resolution j (take k (g ∷ map (λ (y : Preimage r). y.graph) xs)) × (length (take k (g ∷ map (λ (y : Preimage r). y.graph) xs)) ≡ k)
   unfolding matrix_at
   graphs_at zero j g xs G S at h l = (tt, refl)

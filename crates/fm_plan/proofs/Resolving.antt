@@ -8,7 +8,8 @@ use Rattle.fm_run.specs.Runs.{ready, ◌>>=◌}
 use Rattle.fm_graphs.specs.Graphs.{MatrixOf, Graph, width, graph_run}
 use Rattle.fm_graphs.specs.Trims.{Preimage, generating}
 use Rattle.fm_run.proofs.Ends.{Ends, same_value, bound}
-use Rattle.fm_graphs.proofs.Graphs.{IsGraph, graph_is}
+use Rattle.fm_graphs.specs.Graphs.{IsCompletedGraph}
+use Rattle.fm_graphs.proofs.Graphs.{graph_is}
 use Rattle.fm_graphs.proofs.Preimages.{Generating, generating_is, kernel_from, own_shape}
 use Rattle.fm_run.specs.declared.task.Side.{Side}
 use Rattle.fm_run.specs.declared.task.Name.TheVariants.{Resolve}
@@ -20,7 +21,7 @@ use Rattle.fm_plan.proofs.Tasks.{task_ends}
 module _ (r : Ring) where
   -- generators of the kernel of the matrix of g, with their completed graph
   pub record StepOf (g : Graph r) (x : Preimage r) : Type 0 where
-    pub graph : IsGraph r x.graph
+    pub graph : IsCompletedGraph r x.graph
     pub matrix : x.graph.matrix ≡ x.found
     pub shape : HasShape r.prime r.vars (width r g) (length x.found.columns) x.found
     pub exact : GeneratesKernel r.prime r.vars x.found g.matrix
@@ -30,7 +31,7 @@ module _ (r : Ring) where
   Resolves g [] = Unit {0}
   Resolves g (x ∷ xs) = StepOf g x × Resolves x.graph xs
 
-  step_is : (g : Graph r) → IsGraph r g → (units left : ℕ) (x : Preimage r) → Ends (generating r (width r g) 0 g units) x left → StepOf g x
+  step_is : (g : Graph r) → IsCompletedGraph r g → (units left : ℕ) (x : Preimage r) → Ends (generating r (width r g) 0 g units) x left → StepOf g x
   step_is g G units left x e =
       let D = generating_is r (width r g) 0 g G (plain (width r g)) units left x e in
       record { graph = D.graph; matrix = D.graph_matrix; shape = D.found_shape; exact = kernel_from r g G units left x e; generating = D }
@@ -38,7 +39,7 @@ module _ (r : Ring) where
       plain : (a : ℕ) → a ≡ a + 0
       plain a = omega arith
 
-  resolving_is : (side : Side) (count j : ℕ) (g : Graph r) → IsGraph r g → (units left : ℕ) (xs : List (Preimage r)) → Ends (resolving r side count j g units) xs left → Resolves g xs × (length xs ≡ count)
+  resolving_is : (side : Side) (count j : ℕ) (g : Graph r) → IsCompletedGraph r g → (units left : ℕ) (xs : List (Preimage r)) → Ends (resolving r side count j g units) xs left → Resolves g xs × (length xs ≡ count)
   resolving_is side zero j g G units left xs e =
       let same : [] ≡ xs = same_value [] xs units left e in
       (subst (Resolves g) same tt, ap length (sym same))
@@ -75,12 +76,12 @@ module _ (r : Ring) where
 
   -- ---- the resolution
   pub record Resolved (i : ℕ) (fs : Ideal r) (x : Resolution r) : Type 0 where
-    pub first : IsGraph r x.first
+    pub first : IsCompletedGraph r x.first
     pub next : Resolves x.first x.next
     pub long : length x.next ≡ i
     pub resolution : IsResolutionOf r.prime r.vars fs i (differentials_of r x)
 
-  resolved_from : (i : ℕ) (fs : Ideal r) (g : Graph r) (xs : List (Preimage r)) → IsGraph r g → g.matrix ≡ row r.prime r.vars fs → Resolves g xs → length xs ≡ i → IsResolutionOf r.prime r.vars fs i (matrices_from g xs)
+  resolved_from : (i : ℕ) (fs : Ideal r) (g : Graph r) (xs : List (Preimage r)) → IsCompletedGraph r g → g.matrix ≡ row r.prime r.vars fs → Resolves g xs → length xs ≡ i → IsResolutionOf r.prime r.vars fs i (matrices_from g xs)
   unfolding matrix_at InIdeal
   resolved_from i fs g xs G e R l = record {
     count = count_from g xs ∙ ap suc l ∙ omega arith;

@@ -1,0 +1,10 @@
+pub mod ColumnTerms
+pub mod Inputs
+pub mod Lower
+pub mod LowerBlocks
+pub mod Twists
+pub mod Border
+pub mod Negating
+pub mod LiftedColumns
+pub mod Insides
+pub mod Solutions

@@ -1,0 +1,2 @@
+pub mod GraphValues
+pub mod Insides
