@@ -21,7 +21,8 @@ use std::alloc::{AllocError, Global};
 pub fn syzygies(alloc: Global, g: &Graph) -> Result<Matrix, AllocError>
     ensures ring { IfOk result (λ m. m.ring ≡ g.now.matrix.ring) }
     ensures rows { IfOk result (λ m. m.rows ≡ length g.now.matrix.columns) }
-    ensures kernel { let r = g.now.matrix.ring in IfOk result (λ m. GeneratesKernel r.prime r.vars (matrix_meaning r m) (matrix_meaning r g.now.matrix)) }
+    ensures kernel { let r = g.now.matrix.ring in
+        IfOk result (λ m. GeneratesKernel r.prime r.vars (matrix_meaning r m) (matrix_meaning r g.now.matrix)) }
     ensures value { (r : Ring) → g.now.matrix.ring ≡ r → IfOk result (λ m. matrix_meaning r m ≡ runs.syzygies r (graph_meaning r g.now)) }
 {
     let ring = g.ring();

@@ -22,7 +22,8 @@ pub fn lift_columns(alloc: Global, g: &Graph, b: &Matrix, work: &mut Work) -> Re
         (runs.lifted r (graph_meaning r g.now) (columns_meaning r b.now.columns) work.old) }
     ensures ring { IfOk result (λ m. m.ring ≡ g.now.matrix.ring) }
     ensures solves { let r = g.now.matrix.ring in let A = matrix_meaning r g.now.matrix in let B = matrix_meaning r b.now in
-        ((v : VectorOf r) → Contains B.columns v → InImage r.prime r.vars A v) → IfOk result (λ m. matrix_product r.prime r.vars A (matrix_meaning r m) ≡ B) }
+        ((v : VectorOf r) → Contains B.columns v → InImage r.prime r.vars A v) →
+        IfOk result (λ m. matrix_product r.prime r.vars A (matrix_meaning r m) ≡ B) }
 {
     solve_columns(alloc, g, b, work)
 }

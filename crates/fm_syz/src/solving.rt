@@ -21,7 +21,8 @@ pub(crate) fn solution(
     requires rows { rest.now.rows ≡ m + c }
     ensures over { IfOk result (λ w. AreOver ring w.items) }
     ensures rows { IfOk result (λ w. length w.items ≡ c) }
-    ensures value { IfOk result (λ w. column_meaning ring w.items ≡ vector_negative ring.prime ring.vars (components_meaning ring c (suc m) rest.now.terms)) }
+    ensures value { IfOk result (λ w. column_meaning ring w.items ≡
+        vector_negative ring.prime ring.vars (components_meaning ring c (suc m) rest.now.terms)) }
 {
     let lower = lower_part(alloc, m, rest)?;
     negated(alloc, ring, lower.entries())
