@@ -1,7 +1,7 @@
 -- The rows of lines can be read, and the words of a line tell its kind.
 use Rattle.std.proofs.Common.{◌≡◌, true, false, List, [], ◌∷◌, Option, Some, None, refl, ap}
 use Rattle.std.specs.Prelude.{codes, option_map}
-use Rattle.fm_poly.specs.Texts.{Bytes}
+use Rattle.fm_words.specs.Parts.{Bytes}
 use Rattle.fm_words.specs.Words.{same_bytes}
 use Rattle.fm_problem.specs.declared.query.Query.{Query}
 use Rattle.fm_cert.specs.Fields.{Values, printed_row}

@@ -6,23 +6,23 @@ use Rattle.std.proofs.lemmas.Bool.{and_parts, and_from}
 use Rattle.std.proofs.lemmas.Bool.Decides.{nat_tests}
 use Rattle.fm_mono.specs.declared.order.Order.{Order}
 use Rattle.fm_mono.specs.declared.order.Order.TheVariants.{Grevlex, Deglex, Lex}
-use Rattle.fm_poly.specs.Texts.{AreNames, ◌>>=◌}
+use Rattle.fm_words.specs.Words.{AreNames, words, after_word, is_empty, is_blank, is_digit, is_number, is_name, is_name_byte, same_bytes, value}
+use Rattle.fm_words.specs.Options.{◌>>=◌}
 use Rattle.fm_poly.specs.declared.ring.Ring.{Ring}
 use Rattle.fm_words.specs.declared.mark.Mark.TheVariants.{Blank, Comma, Equals, Open, Close}
 use Rattle.fm_words.specs.Parts.{Bytes, is_mark, parts, before_mark, after_mark, only, pair, triple}
-use Rattle.fm_words.specs.Words.{words, after_word, is_empty, is_blank, is_digit, is_number, is_name, is_name_byte, same_bytes, value}
 use Rattle.fm_problem.specs.declared.keyword.Question.{Question}
 use Rattle.fm_problem.specs.declared.keyword.Question.TheVariants.{Zero, Root, Support, Resolution, Ext}
 use Rattle.fm_problem.specs.declared.keyword.Keyword.TheVariants.{Module}
 use Rattle.fm_problem.specs.declared.query.Query.{Query}
-use Rattle.fm_problem.specs.Factors.{is_polynomial, are_polynomials}
+use Rattle.fm_text.specs.Factors.{is_polynomial, are_polynomials}
 use Rattle.fm_problem.specs.Statements.{Statement, RingLine, OrderLine, IdealLine, ModuleLine, ClassLine, InvertLine, MapLine, MemberLine, ring_line, named_ideal, ideal_line, module_line, entries_of, are_entries, class_parts, class_line, invert_line, map_line, member_line, after_keyword, keyword_of, by_words, statement_of}
 use Rattle.fm_cert.specs.Fields.{Values, printed_row, read_row}
 use Rattle.fm_cert.specs.Kinds.{Kind, row}
 use Rattle.fm_cert.specs.Statements.{order_word, question_word, vector_of_texts, statement_words}
 use Rattle.fm_cert.specs.Lines.{Line, Head, Question as Asks, Row, line_text, begins_head, question_of, exact_words, row_of, line_of}
 use Rattle.fm_cert.specs.Writable.{is_inner, is_word, is_poly_byte, is_spelled, IsHead, IsWritableStatement, AnswersQuery, AreWritableValues, IsWritableLine}
-use Rattle.fm_cert.proofs.Bytes.{all_append, all_weaker, not_split, number_digits, number_value, decimal_is_number, name_bytes}
+use Rattle.fm_text.proofs.Bytes.{all_append, all_weaker, not_split, number_digits, number_value, decimal_is_number, name_bytes}
 use Rattle.fm_cert.proofs.RowsRead.{number_read, row_read}
 use Rattle.fm_cert.proofs.KindsRead.{row_is, kind_is, other_line, no_query, some_words, first_of}
 use Rattle.fm_cert.proofs.WordsRead.{word_parts, NoneIn, split_at, split_joined, words_cut, exactly_cut, before_blank, before_none, after_blank, after_first, words_after, number_word, name_word, row_words}

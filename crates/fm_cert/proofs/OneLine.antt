@@ -5,10 +5,9 @@ use Rattle.std.specs.List.{list_all, join_with_byte}
 use Rattle.std.proofs.lemmas.Bool.{and_parts}
 use Rattle.std.proofs.lemmas.Bool.Decides.{nat_tests}
 use Rattle.fm_mono.specs.declared.order.Order.TheVariants.{Grevlex, Deglex, Lex}
-use Rattle.fm_poly.specs.Texts.{AreNames}
+use Rattle.fm_words.specs.Words.{AreNames, is_name}
 use Rattle.fm_poly.specs.declared.ring.Ring.{Ring}
 use Rattle.fm_words.specs.Parts.{Bytes}
-use Rattle.fm_words.specs.Words.{is_name}
 use Rattle.fm_problem.specs.declared.keyword.Question.{Question}
 use Rattle.fm_problem.specs.declared.keyword.Question.TheVariants.{Zero, Root, Support, Resolution, Ext}
 use Rattle.fm_problem.specs.declared.query.Query.{Query}
@@ -17,7 +16,7 @@ use Rattle.fm_cert.specs.Kinds.{row}
 use Rattle.fm_cert.specs.Statements.{question_word, vector_of_texts, statement_words}
 use Rattle.fm_cert.specs.Lines.{Line, Head, Question as Asks, Row, line_words, line_text}
 use Rattle.fm_cert.specs.Writable.{is_inner, is_word, is_poly_byte, is_spelled, IsWritableStatement, IsWritableLine}
-use Rattle.fm_cert.proofs.Bytes.{all_append, all_weaker, AllAre, all_joined}
+use Rattle.fm_text.proofs.Bytes.{all_append, all_weaker, AllAre, all_joined}
 use Rattle.fm_cert.proofs.KindsRead.{row_is}
 use Rattle.fm_cert.proofs.WordsRead.{word_parts, number_word, name_word, row_words}
 

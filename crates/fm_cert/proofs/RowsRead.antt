@@ -9,18 +9,20 @@ use Rattle.fm_algebra.specs.Twist.{AllBelow}
 use Rattle.fm_algebra.specs.Polynomials.{AreListedTerms}
 use Rattle.fm_mono.specs.Bounded.{exponent_bound}
 use Rattle.fm_poly.specs.Polys.{PolyValue, IsCanonical, pairs}
-use Rattle.fm_poly.specs.Texts.{Bytes, AreNames, ArePrintable, IsPrintableTerm, AllPrintable, poly_text, vector_text, pieces, ◌>>=◌, where_so, all_of}
+use Rattle.fm_words.specs.Parts.{Bytes, pieces}
+use Rattle.fm_words.specs.Words.{AreNames, same_bytes, value}
+use Rattle.fm_text.specs.Texts.{ArePrintable, IsPrintableTerm, AllPrintable, poly_text, vector_text}
+use Rattle.fm_words.specs.Options.{◌>>=◌, where_so, all_of}
 use Rattle.fm_poly.specs.declared.ring.Ring.{Ring}
 use Rattle.fm_poly.specs.declared.term.Term.{Term}
-use Rattle.fm_poly.proofs.Cutting.{Within, AreTexts, texts_more, pieces_at, pieces_join, join_text}
-use Rattle.fm_poly.proofs.PrintedFactors.{same_refl}
-use Rattle.fm_poly.proofs.PrintedPolys.{all_read, poly_is_text, polys_are_texts}
-use Rattle.fm_words.specs.Words.{same_bytes, value}
+use Rattle.fm_words.proofs.Cutting.{Within, AreTexts, texts_more, pieces_at, pieces_join, join_text}
+use Rattle.fm_text.proofs.PrintedFactors.{same_refl}
+use Rattle.fm_text.proofs.PrintedPolys.{all_read, poly_is_text, polys_are_texts}
 use Rattle.fm_cert.specs.Fields
-use Rattle.fm_cert.specs.Fields.{Field, number, times, name, yes_no, yes_with, keep_or_zero, by_numbers, numbers, free_words, generators, columns, Value, yes_word, yes_with_words, keep_word, by_words, comma_words, polynomial_word, vector_word, printed, exact_number, exact_numbers, some_numbers, up_to, first_word, before_number, leading_numbers, some_leading, read_by, polynomial_or_none, without_comma, unless_zero, nonzero, read_polynomial, generators_of, entries_of, closed_entries, read_vector, counted_vectors, read, Item, word, field, Values, printed_row, read_row}
+use Rattle.fm_cert.specs.Fields.{Field, number, times, name, yes_no, yes_with, keep_or_zero, by_numbers, numbers, free_words, generators, columns, Value, yes_with_words, keep_word, by_words, comma_words, polynomial_word, vector_word, printed, exact_number, exact_numbers, some_numbers, up_to, before_number, leading_numbers, some_leading, read_by, polynomial_or_none, without_comma, unless_zero, nonzero, read_polynomial, generators_of, entries_of, closed_entries, read_vector, counted_vectors, read, Item, word, field, Values, printed_row, read_row}
 use Rattle.fm_cert.specs.Writable.{AreSmall, IsWritablePolynomial, AreWritablePolynomials, AreWritableVectors, AreNotZero, IsWritableValue, AreWritableValues, is_word}
-use Rattle.fm_cert.proofs.Bytes.{decimal_is, decimal_is_number, number_value}
-use Rattle.fm_cert.proofs.PolynomialsRead.{prime_small, polynomial_read, terms_at_most, TermsAtMost, AreAtMost}
+use Rattle.fm_text.proofs.Bytes.{decimal_is, decimal_is_number, number_value}
+use Rattle.fm_text.proofs.PolynomialsRead.{prime_small, polynomial_read, terms_at_most, TermsAtMost, AreAtMost}
 
 -- ---- numbers
 less_test : (n : ℕ) → n < 2 ^ 64 → nat_lt n (2 ^ 64) ≡ true

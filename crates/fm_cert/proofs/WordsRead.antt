@@ -5,17 +5,17 @@ use Rattle.std.specs.List.{list_all, join_with_byte, slice_split, onto_first}
 use Rattle.std.proofs.lemmas.Bool.{and_parts, and_from}
 use Rattle.std.proofs.lemmas.Bool.Decides.{nat_tests}
 use Rattle.fm_poly.specs.Polys.{PolyValue, pairs}
-use Rattle.fm_poly.specs.Texts.{AreNames, vector_text, poly_text}
+use Rattle.fm_words.specs.Words.{AreNames, nonempty, words, after_word, is_digit, is_name}
+use Rattle.fm_text.specs.Texts.{vector_text, poly_text}
 use Rattle.fm_poly.specs.declared.ring.Ring.{Ring}
-use Rattle.fm_poly.proofs.PrintedPolys.{poly_is_text}
+use Rattle.fm_text.proofs.PrintedPolys.{poly_is_text}
 use Rattle.fm_words.specs.declared.mark.Mark.TheVariants.{Blank}
 use Rattle.fm_words.specs.Parts.{Bytes, is_mark, parts, before_mark, after_mark}
-use Rattle.fm_words.specs.Words.{nonempty, words, after_word, is_digit, is_name}
 use Rattle.fm_cert.specs.Fields.{Field, number, times, name, yes_no, yes_with, keep_or_zero, by_numbers, numbers, free_words, generators, columns, Value, by_words, comma_words, polynomial_word, vector_word, printed, yes_with_words, Item, word, field, Values, printed_row}
 use Rattle.fm_cert.specs.Lines.{exact_words, is_full}
 use Rattle.fm_cert.specs.Writable.{is_inner, is_word, AreSmall, IsWritablePolynomial, AreWritablePolynomials, AreWritableVectors, IsWritableValue, AreWritableValues}
-use Rattle.fm_cert.proofs.Bytes.{is_plain, are_plain, all_append, all_weaker, AllAre, all_joined, not_split, decimal_is, number_digits, name_is_plain}
-use Rattle.fm_cert.proofs.PolynomialsRead.{polynomial_is_plain}
+use Rattle.fm_text.proofs.Bytes.{is_plain, are_plain, all_append, all_weaker, AllAre, all_joined, not_split, decimal_is, number_digits, name_is_plain}
+use Rattle.fm_text.proofs.PolynomialsRead.{polynomial_is_plain}
 use Rattle.fm_cert.proofs.RowsRead.{is_row, is_good, polynomial_printable}
 
 -- ---- words
@@ -77,8 +77,8 @@ words_cut w ws h = ap nonempty (blanks_cut w ws h) ∙ all_nonempty (w ∷ ws) h
 
 pub exactly_cut : (w : Bytes) (ws : List Bytes) → list_all is_word (w ∷ ws) ≡ true → exact_words (join_with_byte 32 (w ∷ ws)) ≡ Some (w ∷ ws)
 exactly_cut w ws h =
-    ap (λ ps. Rattle.fm_poly.specs.Texts.where_so (list_all is_full ps) (Some ps)) (blanks_cut w ws h)
-    ∙ ap (λ (t : Bool). Rattle.fm_poly.specs.Texts.where_so t (Some (w ∷ ws))) (words_full (w ∷ ws) h)
+    ap (λ ps. Rattle.fm_words.specs.Options.where_so (list_all is_full ps) (Some ps)) (blanks_cut w ws h)
+    ∙ ap (λ (t : Bool). Rattle.fm_words.specs.Options.where_so t (Some (w ∷ ws))) (words_full (w ∷ ws) h)
 
 -- ---- before and after the first blank
 pub before_blank : (w rest : Bytes) → list_all is_inner w ≡ true → before_mark Blank (w ++ 32 ∷ rest) ≡ w

@@ -1,12 +1,13 @@
 -- The fields of lines: what stands between the blanks of a line, how it is printed and how it is read.
 use Rattle.std.specs.Prelude.{ℕ, ◌^◌, Bool, true, false, ◌&&◌, if◌then◌else◌, nat_eq, nat_le, nat_lt, List, [], ◌∷◌, ◌++◌, map, length, codes, decimal, Option, Some, None, option_map, Result, Ok, Err}
 use Rattle.fm_poly.specs.Polys.{PolyValue, pairs}
-use Rattle.fm_poly.specs.Texts.{poly_text, vector_text, ◌>>=◌, where_so, all_of}
+use Rattle.fm_text.specs.Texts.{poly_text, vector_text}
+use Rattle.fm_words.specs.Options.{◌>>=◌, where_so, all_of}
 use Rattle.fm_poly.specs.declared.ring.Ring.{Ring}
 use Rattle.fm_words.specs.declared.mark.Mark.TheVariants.{Comma, Close}
 use Rattle.fm_words.specs.Parts.{Bytes, parts}
-use Rattle.fm_words.specs.Words.{is_number, is_name, same_bytes, value}
-use Rattle.fm_problem.specs.Certificates.{certificate_polynomial}
+use Rattle.fm_words.specs.Words.{is_number, is_exact, is_name, same_bytes, value}
+use Rattle.fm_text.specs.Certificates.{certificate_polynomial}
 
 -- the kinds of fields
 pub data Field : Type 0 where
@@ -93,12 +94,6 @@ module _ (names : List Bytes) where
 
 -- ---- reading: what a field says, and the words after it
 
--- a number without leading zeros
-abbrev pub is_exact : Bytes → Bool
-is_exact [] = false
-is_exact (b ∷ []) = true
-is_exact (b ∷ c ∷ bs) = if nat_eq b 48 then false else true
-
 -- decimal digits without leading zeros, of a number below 2^64
 unfoldable pub exact_number : Bytes → Option ℕ
 exact_number w = where_so (is_number w && (is_exact w && nat_lt (value w) (2 ^ 64))) (Some (value w))
@@ -159,7 +154,7 @@ abbrev pub some_words : List Bytes → Option (List Bytes)
 some_words [] = None
 some_words (w ∷ ws) = Some (w ∷ ws)
 
-abbrev pub polynomial_or_none : Result PolyValue Rattle.fm_problem.specs.declared.poly_fault.PolyFault.PolyFault → Option PolyValue
+abbrev pub polynomial_or_none : Result PolyValue Rattle.fm_text.specs.declared.poly_fault.PolyFault.PolyFault → Option PolyValue
 polynomial_or_none (Ok f) = Some f
 polynomial_or_none (Err e) = None
 

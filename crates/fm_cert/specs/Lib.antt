@@ -4,3 +4,8 @@ pub mod Lines
 pub mod Statements
 pub mod Writable
 pub mod Naming
+pub mod Questions
+pub mod Ends
+pub mod Pieces
+pub mod Said
+pub mod Parts

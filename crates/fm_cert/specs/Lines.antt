@@ -1,7 +1,7 @@
 -- The lines of reports: what they say, how they are printed, and how they are read.
-use Rattle.std.specs.Prelude.{ℕ, Bool, true, false, ◌||◌, if◌then◌else◌, List, [], ◌∷◌, codes, decimal, Option, Some, option_map}
-use Rattle.std.specs.List.{list_all, join_with_byte}
-use Rattle.fm_poly.specs.Texts.{◌>>=◌, where_so}
+use Rattle.std.specs.Prelude.{ℕ, Bool, true, false, ◌||◌, if◌then◌else◌, List, [], ◌∷◌, ◌++◌, codes, decimal, Option, Some, option_map}
+use Rattle.std.specs.List.{list_all, join_with_byte, flat_map}
+use Rattle.fm_words.specs.Options.{◌>>=◌, where_so}
 use Rattle.fm_poly.specs.declared.ring.Ring.{Ring}
 use Rattle.fm_words.specs.declared.mark.Mark.TheVariants.{Blank}
 use Rattle.fm_words.specs.Parts.{Bytes, parts, before_mark, after_mark}
@@ -29,6 +29,10 @@ line_words names (Row kind values) = printed_row names (row kind) values
 -- the text of a line without its LF: the words joined by a blank
 unfoldable pub line_text : List Bytes → Line → Bytes
 line_text names l = join_with_byte 32 (line_words names l)
+
+-- the text of lines over variables with these names, each ended by LF
+unfoldable pub lines_text : List Bytes → List Line → Bytes
+lines_text names ls = flat_map (λ l. line_text names l ++ 10 ∷ []) ls
 
 -- ---- reading
 

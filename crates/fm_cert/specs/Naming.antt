@@ -41,6 +41,17 @@ abbrev pub naming_lines : List Bytes → List Naming → List (List Bytes) → L
 naming_lines names [] forms = []
 naming_lines names (x ∷ xs) forms = named names (number_after zero forms (grid_words names x.grid)) x forms (naming_lines names xs)
 
+-- the forms that have numbers after a matrix of this form is named, by its place among those before
+abbrev pub forms_with : Option ℕ → List (List Bytes) → List Bytes → List (List Bytes)
+forms_with (Some k) forms form = forms
+forms_with None forms form = forms ++ form ∷ []
+
+-- the forms that have numbers after these matrices are named
+abbrev pub forms_after : List Bytes → List Naming → List (List Bytes) → List (List Bytes)
+forms_after names [] forms = forms
+forms_after names (x ∷ xs) forms =
+    forms_after names xs (forms_with (number_after zero forms (grid_words names x.grid)) forms (grid_words names x.grid))
+
 -- d_j, d_(j+1), ..
 abbrev pub differentials : ℕ → List Grid → List Naming
 differentials j [] = []
@@ -50,3 +61,27 @@ differentials j (g ∷ gs) = record { line = λ k. Row kinds.D (j, (k, tt)); gri
 abbrev pub lifts : ℕ → List Grid → List Naming
 lifts j [] = []
 lifts j (g ∷ gs) = record { line = λ k. Row kinds.Theta (j, (k, tt)); grid = g } ∷ lifts (suc j) gs
+
+-- generators Z of the cocycles, the relations N, and the generating morphism U
+abbrev pub cocycles_naming : Grid → Naming
+cocycles_naming g = record { line = λ k. Row kinds.Z (k, tt); grid = g }
+
+abbrev pub relations_naming : Grid → Naming
+relations_naming g = record { line = λ k. Row kinds.N (k, tt); grid = g }
+
+abbrev pub morphism_naming : Grid → Naming
+morphism_naming g = record { line = λ k. Row kinds.U (k, tt); grid = g }
+
+-- K_j, K_(j+1), ..
+abbrev pub kernels : ℕ → List Grid → List Naming
+kernels j [] = []
+kernels j (g ∷ gs) = record { line = λ k. Row kinds.K (j, (k, tt)); grid = g } ∷ kernels (suc j) gs
+
+-- lambda_j, lambda_(j+1), ..: the lift of the identity
+abbrev pub identities : ℕ → List Grid → List Naming
+identities j [] = []
+identities j (g ∷ gs) = record { line = λ k. Row kinds.Lambda (j, (k, tt)); grid = g } ∷ identities (suc j) gs
+
+-- the matrix of a map
+abbrev pub map_naming : Grid → Naming
+map_naming g = record { line = λ k. Row kinds.Phi (k, tt); grid = g }

@@ -2,12 +2,12 @@
 use Rattle.std.specs.Prelude.{◌≡◌, ◌≤◌, ◌<◌, ◌^◌, ℕ, Bool, true, false, ◌&&◌, ◌||◌, not, List, [], ◌∷◌, length, Option, Some, None, option_map}
 use Rattle.std.specs.List.{list_all}
 use Rattle.fm_poly.specs.Polys.{PolyValue, IsCanonical, pairs}
-use Rattle.fm_poly.specs.Texts.{AreWithinBound}
+use Rattle.fm_poly.specs.Bounds.{AreWithinBound}
 use Rattle.fm_poly.specs.declared.ring.Ring.{Ring}
 use Rattle.fm_words.specs.declared.mark.Mark.TheVariants.{Blank, Feed, Comma, Equals, Open, Close}
 use Rattle.fm_words.specs.Parts.{Bytes, is_mark}
 use Rattle.fm_words.specs.Words.{is_name}
-use Rattle.fm_problem.specs.Factors.{is_polynomial}
+use Rattle.fm_text.specs.Factors.{is_polynomial}
 use Rattle.fm_problem.specs.Statements.{Statement, RingLine, OrderLine, IdealLine, ModuleLine, ClassLine, InvertLine, MapLine, MemberLine}
 use Rattle.fm_cert.specs.Lines.{Line, Head, Question, Row}
 use Rattle.fm_problem.specs.declared.query.Query.{Query}

@@ -9,7 +9,7 @@ use Rattle.fm_gfp.specs.Primes.{prime_value}
 use Rattle.fm_mono.specs.Bounded.{exponent_bound, is_bounded}
 use Rattle.fm_poly.specs.declared.ring.Ring.{Ring}
 use Rattle.fm_poly.specs.Polys.{pairs}
-use Rattle.fm_poly.specs.Texts.{AreWithinBound}
+use Rattle.fm_poly.specs.Bounds.{AreWithinBound}
 use Rattle.fm_term.specs.declared.vterm.VTerm.{VTerm}
 use Rattle.fm_term.specs.Places.{term_cmp}
 use Rattle.fm_term.specs.Multiples.{multiple_term, twisted}
@@ -21,12 +21,8 @@ use Rattle.fm_run.specs.Runs.{Ended}
 use Rattle.fm_complete.specs.Divisors.{first_step}
 use Rattle.fm_complete.specs.Reductions.{Reduced, cancelled, stepped, without_units, with_unit, reduced, divided}
 use Rattle.fm_complete.specs.Divisions.{quotient_terms}
+use Rattle.fm_complete.specs.Within.{AllBounded}
 use Rattle.fm_complete.proofs.Heads.{found}
-
--- every exponent is within the bound of the program
-abbrev pub AllBounded : List VTerm → Type 0
-AllBounded [] = Unit {0}
-AllBounded (t ∷ ts) = (is_bounded t.mono ≡ true) × AllBounded ts
 
 pub twist_bounded : (q : ℕ) (ts : List VTerm) → twist_fits q ts ≡ true → AllBounded (twisted q ts)
 twist_bounded q [] h = tt
@@ -41,7 +37,7 @@ difference_bounded (i ∷ a) (j ∷ b) h = let h = and_parts _ _ h in and_from _
     less i j h = grind (arith, nat_tests)
 
 module _ (r : Ring) where
-  put_bounded : (t : VTerm) (us : List VTerm) → is_bounded t.mono ≡ true → AllBounded us → AllBounded (put r t us)
+  pub put_bounded : (t : VTerm) (us : List VTerm) → is_bounded t.mono ≡ true → AllBounded us → AllBounded (put r t us)
   put_bounded t [] h w = (h, tt)
   put_bounded t (u ∷ us) h w = go (term_cmp r.order u t) (put_bounded t us h w.1)
     where
@@ -54,7 +50,7 @@ module _ (r : Ring) where
       go Equal later = summed ((u.coeff + t.coeff) % prime_value r.prime == 0)
       go Greater later = (w.0, later)
 
-  plus_bounded : (d : ℕ) (m : List ℕ) (g f : List VTerm) → multiple_fits m g ≡ true → AllBounded f → AllBounded (plus_multiple r d m g f)
+  pub plus_bounded : (d : ℕ) (m : List ℕ) (g f : List VTerm) → multiple_fits m g ≡ true → AllBounded f → AllBounded (plus_multiple r d m g f)
   plus_bounded d m [] f h w = w
   plus_bounded d m (t ∷ g) f h w = let h = and_parts _ _ h in put_bounded (multiple_term r.prime d m t) (plus_multiple r d m g f) h.0 (plus_bounded d m g f h.1 w)
 

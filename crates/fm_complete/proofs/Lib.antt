@@ -9,6 +9,8 @@ pub mod DivisionLaw
 pub mod Principal
 pub mod Quotients
 pub mod BoundedQuotients
+pub mod WithinBound
+pub mod Counting
 pub mod Meanings
 pub mod HeadReductions
 pub mod PendingPairs
@@ -21,3 +23,4 @@ pub mod Lengths
 pub mod Nonzero
 pub mod Standing
 pub mod Places
+pub mod Indexed

@@ -41,6 +41,13 @@ module _ (r : Ring) (members : List (List VTerm)) where
   divided_run_spends v zero = omega arith
   divided_run_spends v (suc units) = let h = reduced_spends v units in omega (arith, h)
 
+  -- no more is left after a division than after its first unit
+  pub paid_leaves : (v : List VTerm) (u u' : ℕ) → u ≡ u' + 1 → (divided r members u v).left ≤ u'
+  paid_leaves v u u' paid =
+      let h = reduced_spends v u' in
+      let same : (divided r members u v).left ≡ (divided r members (suc u') v).left = ap (λ n. (divided r members n v).left) (let e : u ≡ suc u' = omega arith in e) in
+      omega (arith, h, same)
+
   -- what is left after a division whose head reductions came to an end
   pub paid_left : (v : List VTerm) (u u' left : ℕ) (e : Result Reduced Halt) → u ≡ u' + 1 → reduced r members u' v ≡ record { end = e; left = left } → (left < u) × ((divided r members u v).left ≤ left)
   paid_left v u u' left e paid is =

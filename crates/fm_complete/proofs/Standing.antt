@@ -1,6 +1,7 @@
 -- Members and pending pairs of a completion, with one member more.
-use Rattle.std.proofs.Common.{ℕ, zero, suc, ◌+◌, ◌*◌, ◌%◌, ◌<◌, ◌≤◌, ◌≡◌, ◌≢◌, ◌==◌, if◌then◌else◌, Bool, true, false, List, [], ◌∷◌, ◌++◌, map, length, Some, refl, sym, ap, ◌∙◌, subst, arith}
+use Rattle.std.proofs.Common.{ℕ, zero, suc, ◌+◌, ◌*◌, ◌%◌, ◌<◌, ◌≤◌, ◌≡◌, ◌≢◌, ◌==◌, if◌then◌else◌, Bool, true, false, List, [], ◌∷◌, ◌++◌, map, length, drop, get_or, Some, refl, sym, ap, ◌∙◌, subst, arith}
 use Rattle.std.proofs.lemmas.Bool.{eqb-true}
+use Rattle.std.specs.Borrow.{Bor}
 use Rattle.std.specs.declared.cmp.Ordering.{Ordering}
 use Rattle.std.specs.declared.cmp.Ordering.TheVariants.{Less, Equal, Greater}
 use Rattle.fm_gfp.specs.Primes.{prime_value}
@@ -17,7 +18,7 @@ use Rattle.fm_complete.specs.Bases.{entry_value}
 use Rattle.fm_complete.specs.Completions.{Completion, pair_cmp, insert_at, inserted, pair_of, with_pair, with_pairs, kept}
 use Rattle.fm_complete.specs.Divisions.{AreMembers, terms_of}
 use Rattle.fm_complete.specs.Pairs.{EachPair, ArePairsOver}
-use Rattle.fm_complete.specs.Standing.{IsPairOf, ArePairsOf, AreMonicMembers, AreStanding}
+use Rattle.fm_complete.specs.Standing.{IsPairOf, ArePairsOf, AreMonicMembers, AreStanding, values}
 use Rattle.fm_complete.specs.Trails.{member_at}
 use Rattle.fm_complete.proofs.Cancelling.{inverse_one}
 
@@ -25,6 +26,16 @@ use Rattle.fm_complete.proofs.Cancelling.{inverse_one}
 pub length_terms : (vs : List VectorValue) → length (terms_of vs) ≡ length vs
 length_terms [] = refl
 length_terms (v ∷ vs) = ap suc (length_terms vs)
+
+-- the borrowed vector at k, and those behind it
+pub values_at : (xs : List (Bor VectorValue)) (k : ℕ) (v : Bor VectorValue) → k < length xs → v ≡ get_or xs k v → values (drop k xs) ≡ v.now ∷ values (drop (k + 1) xs)
+values_at [] k v l e = absurd (omega (arith, l))
+values_at (x ∷ xs) zero v l e = ap (λ (y : Bor VectorValue). y.now ∷ values xs) (sym e)
+values_at (x ∷ xs) (suc k) v l e = values_at xs k v (omega arith) e ∙ ap (λ n. v.now ∷ values (drop n (x ∷ xs))) (let h : suc (k + 1) ≡ suc k + 1 = omega arith in h)
+
+pub values_then : (xs : List (Bor VectorValue)) (v : Bor VectorValue) (left : List VectorValue) → values (xs ++ v ∷ []) ++ left ≡ values xs ++ v.now ∷ left
+values_then [] v left = refl
+values_then (x ∷ xs) v left = ap (λ vs. x.now ∷ vs) (values_then xs v left)
 
 pub terms_more : (vs : List VectorValue) (v : VectorValue) → terms_of (vs ++ v ∷ []) ≡ terms_of vs ++ v.terms ∷ []
 terms_more [] v = refl

@@ -10,3 +10,5 @@ pub mod Completions
 pub mod Pairs
 pub mod Standing
 pub mod Bases
+pub mod Within
+pub mod Indexed

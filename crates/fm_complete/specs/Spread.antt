@@ -1,5 +1,5 @@
 -- A long vector as buckets, one for each component, and the members without their heads as columns.
-use Rattle.std.specs.Prelude.{ℕ, suc, ◌≡◌, true, List, [], ◌∷◌}
+use Rattle.std.specs.Prelude.{ℕ, suc, ◌≡◌, true, List, [], ◌∷◌, ◌++◌}
 use Rattle.fm_poly.specs.declared.ring.Ring.{Ring}
 use Rattle.fm_poly.specs.declared.term.Term.{Term}
 use Rattle.fm_poly.specs.Polys.{PolyValue}
@@ -32,3 +32,7 @@ tail_column r n (t ∷ ts) = column_from r n 1 ts
 abbrev pub tail_columns : Ring → ℕ → List (List VTerm) → List (List PolyValue)
 tail_columns r n [] = []
 tail_columns r n (g ∷ gs) = tail_column r n g ∷ tail_columns r n gs
+
+-- xs is a front of ys
+abbrev pub IsFront : List (List PolyValue) → List (List PolyValue) → Type 0
+IsFront xs ys = (later : List (List PolyValue)) × (ys ≡ xs ++ later)

@@ -1,12 +1,17 @@
 -- What holds of a completion under way: monic members, and pending pairs of them.
 use Rattle.std.specs.Prelude.{ℕ, ◌≡◌, ◌<◌, ◌≤◌, ◌^◌, List, [], ◌∷◌, Option, Some, None, length}
+use Rattle.std.specs.Borrow.{Bor}
 use Rattle.fm_poly.specs.declared.ring.Ring.{Ring}
+use Rattle.fm_poly.specs.Polys.{PolyValue}
 use Rattle.fm_term.specs.declared.vterm.VTerm.{VTerm}
 use Rattle.fm_term.specs.Falling.{IsMonic}
 use Rattle.fm_vec.specs.Vectors.{VectorValue, HaveSVector}
 use Rattle.fm_complete.specs.declared.critical_pair.CriticalPair.{CriticalPair}
+use Rattle.fm_complete.specs.declared.head_index.Head.{Head}
 use Rattle.fm_complete.specs.Divisions.{AreMembers, terms_of}
+use Rattle.fm_complete.specs.Indexed.{IsIndexOf}
 use Rattle.fm_complete.specs.Pairs.{EachPair, ArePairsOver}
+use Rattle.fm_complete.specs.Spread.{IsFront, tail_columns}
 use Rattle.fm_complete.specs.Trails.{member_at}
 
 -- a pair of two of the members, which have an S-vector
@@ -28,6 +33,16 @@ pub record AreStanding (r : Ring) (rows : ℕ) (members : List VectorValue) : Ty
   pub vectors : AreMembers r rows members
   pub few : length members < 2 ^ 32
   pub monic : AreMonicMembers (terms_of members)
+
+-- the heads of all members by their components, and the tails of the first ones
+pub record AreReady (r : Ring) (rows : ℕ) (members : List VectorValue) (index : List (List Head)) (columns : List (List PolyValue)) : Type 0 where
+  pub heads : IsIndexOf r rows (terms_of members) index
+  pub tails : IsFront columns (tail_columns r rows (terms_of members))
+
+-- the vectors that are borrowed
+abbrev pub values : List (Bor VectorValue) → List VectorValue
+values [] = []
+values (v ∷ vs) = v.now ∷ values vs
 
 -- vectors of one ring and length
 abbrev pub AreOfShape : Ring → ℕ → List VectorValue → Type 0

@@ -7,13 +7,16 @@ ghost use Rattle.fm_complete.specs.Bases.{basis_value, completion_value, entry_v
 ghost use Rattle.fm_complete.specs.Completions as runs;
 ghost use Rattle.fm_complete.specs.Completions.{completed, kept, pair_formed, skipping, with_inputs};
 ghost use Rattle.fm_complete.specs.Divisions.{AreMembers, terms_of};
+ghost use Rattle.fm_complete.specs.Indexed.{IsIndexOf};
 ghost use Rattle.fm_complete.specs.Reductions.{divided};
-ghost use Rattle.fm_complete.specs.Standing.{AreOfShape, ArePairsOf, AreStanding, with_first};
+ghost use Rattle.fm_complete.specs.Standing.{AreOfShape, ArePairsOf, AreReady, AreStanding, values, with_first};
 
 use crate::completion::Completion;
+use crate::head_index::HeadIndex;
 use crate::pairs::s_rest;
 use crate::pending::{find_skipper, push_pairs};
-use crate::{Basis, CriticalPair, Entry, Remainder, Start, rest_of};
+use crate::remainder::divided_rest;
+use crate::{Basis, CriticalPair, Entry, Remainder, Start};
 use fm_poly::Ring;
 use fm_run::{Stop, Work};
 use fm_vec::Vector;
@@ -26,17 +29,20 @@ pub fn complete(
     alloc: Global,
     ring: Ring,
     rows: u32,
-    inputs: &[Vector],
+    inputs: &[&Vector],
     work: &mut Work,
 ) -> Result<Basis, Stop>
-    requires inputs { AreOfShape ring rows inputs.now }
+    requires inputs { AreOfShape ring rows (values inputs.now) }
     requires few { length inputs.now < 2 ^ 32 }
-    ensures follows { Follows basis_value result work.old work.new (completed ring (terms_of inputs.now) work.old) }
+    ensures follows { Follows basis_value result work.old work.new (completed ring (terms_of (values inputs.now)) work.old) }
     ensures members { IfOk result (λ b. AreMembers ring rows b.members.items) }
     ensures few { IfOk result (λ b. length b.members.items < 2 ^ 32) }
 {
+    let heads = HeadIndex::new(alloc, rows)?;
     let mut c = Completion {
         members: Vec::new(alloc),
+        heads,
+        tails: Vec::new(alloc),
         pending: Vec::new(alloc),
         log: Vec::new(alloc),
     };
@@ -59,30 +65,28 @@ fn take_inputs(
     alloc: Global,
     ring: Ring,
     rows: u32,
-    inputs: &[Vector],
+    inputs: &[&Vector],
     c: &mut Completion,
     work: &mut Work,
 ) -> Result<(), Stop>
-    requires inputs { AreOfShape ring rows inputs.now }
+    requires inputs { AreOfShape ring rows (values inputs.now) }
     requires few { length inputs.now < 2 ^ 32 }
     requires standing { AreStanding ring rows c.old.members.items }
+    requires ready { AreReady ring rows c.old.members.items c.old.heads c.old.tails.items }
     requires pairs { ArePairsOf ring c.old.members.items c.old.pending.items }
-    ensures follows { Follows (λ _. completion_value c.new) result work.old work.new (with_inputs ring 1 (terms_of inputs.now) (completion_value c.old) work.old) }
+    ensures follows { Follows (λ _. completion_value c.new) result work.old work.new
+        (with_inputs ring 1 (terms_of (values inputs.now)) (completion_value c.old) work.old) }
     ensures standing { OnOk result (AreStanding ring rows c.new.members.items) }
+    ensures ready { OnOk result (AreReady ring rows c.new.members.items c.new.heads c.new.tails.items) }
     ensures pairs { OnOk result (ArePairsOf ring c.new.members.items c.new.pending.items) }
 {
-    let mut number = 0;
-    let mut left = inputs;
-    'inputs: loop {
-        let Some((v, later)) = left.split_first() else {
-            return Ok(());
-        };
-        number += 1;
-        match take_input(alloc, ring, rows, number, v, c, work) {
-            Ok(()) => left = later,
+    for k in 0..inputs.len() {
+        match take_input(alloc, ring, rows, k as u32 + 1, inputs[k], c, work) {
+            Ok(()) => {}
             Err(stop) => return Err(stop),
         }
     }
+    Ok(())
 }
 
 fn take_input(
@@ -97,12 +101,16 @@ fn take_input(
     requires ring { v.now.ring ≡ ring }
     requires rows { v.now.rows ≡ rows }
     requires standing { AreStanding ring rows c.old.members.items }
+    requires ready { AreReady ring rows c.old.members.items c.old.heads c.old.tails.items }
     requires pairs { ArePairsOf ring c.old.members.items c.old.pending.items }
-    ensures follows { Follows (λ _. completion_value c.new) result work.old work.new (runs.taken_up ring (Input number) (completion_value c.old) (λ units. divided ring (terms_of c.old.members.items) units v.now.terms) work.old) }
+    ensures follows { Follows (λ _. completion_value c.new) result work.old work.new
+        (runs.taken_up ring (Input number) (completion_value c.old)
+        (λ units. divided ring (terms_of c.old.members.items) units v.now.terms) work.old) }
     ensures standing { OnOk result (AreStanding ring rows c.new.members.items) }
+    ensures ready { OnOk result (AreReady ring rows c.new.members.items c.new.heads c.new.tails.items) }
     ensures pairs { OnOk result (ArePairsOf ring c.new.members.items c.new.pending.items) }
 {
-    let remainder = match rest_of(alloc, &c.members, v, work) {
+    let remainder = match divided_rest(alloc, &c.members, &c.heads, &mut c.tails, v, work) {
         Ok(remainder) => remainder,
         Err(stop) => return Err(stop),
     };
@@ -121,9 +129,12 @@ fn finish(
     work: &mut Work,
 ) -> Result<(), Stop>
     requires standing { AreStanding ring rows c.old.members.items }
+    requires ready { AreReady ring rows c.old.members.items c.old.heads c.old.tails.items }
     requires pairs { ArePairsOf ring c.old.members.items c.old.pending.items }
-    ensures follows { Follows (λ _. completion_value c.new) result work.old work.new (repeated Budget (runs.next_pair ring) (completion_value c.old) work.old) }
+    ensures follows { Follows (λ _. completion_value c.new) result work.old work.new
+        (repeated Budget (runs.next_pair ring) (completion_value c.old) work.old) }
     ensures standing { OnOk result (AreStanding ring rows c.new.members.items) }
+    ensures ready { OnOk result (AreReady ring rows c.new.members.items c.new.heads c.new.tails.items) }
     ensures done { OnOk result (c.new.pending.items ≡ []) }
 {
     'pairs: loop {
@@ -144,14 +155,25 @@ fn next_pair(
     work: &mut Work,
 ) -> Result<bool, Stop>
     requires standing { AreStanding ring rows c.old.members.items }
+    requires ready { AreReady ring rows c.old.members.items c.old.heads c.old.tails.items }
     requires pairs { ArePairsOf ring c.old.members.items c.old.pending.items }
-    ensures follows { Follows (λ formed. turn_value formed (completion_value c.new)) result work.old work.new (runs.next_pair ring (completion_value c.old) work.old) }
+    ensures follows { Follows (λ formed. turn_value formed (completion_value c.new)) result work.old work.new
+        (runs.next_pair ring (completion_value c.old) work.old) }
     ensures spent { IfOk result (λ formed. formed ≡ true → work.new < work.old) }
     ensures standing { OnOk result (AreStanding ring rows c.new.members.items) }
+    ensures ready { OnOk result (AreReady ring rows c.new.members.items c.new.heads c.new.tails.items) }
     ensures pairs { OnOk result (ArePairsOf ring c.new.members.items c.new.pending.items) }
     ensures done { IfOk result (λ formed. formed ≡ false → c.new.pending.items ≡ []) }
 {
-    let taken = take_pair(alloc, ring, rows, &c.members, &mut c.pending, &mut c.log);
+    let taken = take_pair(
+        alloc,
+        ring,
+        rows,
+        &c.members,
+        &c.heads,
+        &mut c.pending,
+        &mut c.log,
+    );
     let Ok(first) = taken else {
         return Err(Stop::Memory);
     };
@@ -170,11 +192,12 @@ fn take_pair(
     ring: Ring,
     rows: u32,
     members: &[Vector],
+    heads: &HeadIndex,
     pending: &mut Vec<CriticalPair>,
     log: &mut Vec<Entry>,
 ) -> Result<Option<CriticalPair>, AllocError>
     requires members { AreMembers ring rows members.now }
-    requires few { length members.now < 2 ^ 32 }
+    requires heads { IsIndexOf ring rows (terms_of members.now) heads.now }
     requires pairs { ArePairsOf ring members.now pending.old.items }
     ensures skipped { IfOk result (λ o. skipping (terms_of members.now) (map entry_value log.old.items) pending.old.items
         ≡ record { members = terms_of members.now; pending = with_first o pending.new.items; log = map entry_value log.new.items }) }
@@ -186,7 +209,7 @@ fn take_pair(
             return Ok(None);
         }
         let p = pending.remove(0);
-        let Some(k) = find_skipper(ring, rows, members, pending.as_slice(), &p) else {
+        let Some(k) = find_skipper(ring, rows, members, heads, pending.as_slice(), &p) else {
             return Ok(Some(p));
         };
         log.push(Entry {
@@ -207,13 +230,26 @@ fn form(
     work: &mut Work,
 ) -> Result<(), Stop>
     requires standing { AreStanding ring rows c.old.members.items }
+    requires ready { AreReady ring rows c.old.members.items c.old.heads c.old.tails.items }
     requires pairs { ArePairsOf ring c.old.members.items (p ∷ c.old.pending.items) }
-    ensures follows { Follows (λ _. completion_value c.new) result work.old work.new (pair_formed ring p (completion_value c.old) work.old) }
+    ensures follows { Follows (λ _. completion_value c.new) result work.old work.new
+        (pair_formed ring p (completion_value c.old) work.old) }
     ensures spent { OnOk result (work.new < work.old) }
     ensures standing { OnOk result (AreStanding ring rows c.new.members.items) }
+    ensures ready { OnOk result (AreReady ring rows c.new.members.items c.new.heads c.new.tails.items) }
     ensures pairs { OnOk result (ArePairsOf ring c.new.members.items c.new.pending.items) }
 {
-    let remainder = match s_rest(alloc, ring, rows, &c.members, p.earlier, p.later, work) {
+    let remainder = match s_rest(
+        alloc,
+        ring,
+        rows,
+        &c.members,
+        &c.heads,
+        &mut c.tails,
+        p.earlier,
+        p.later,
+        work,
+    ) {
         Ok(remainder) => remainder,
         Err(stop) => return Err(stop),
     };
@@ -242,9 +278,12 @@ fn keep(
     requires ring { remainder.rest.ring ≡ ring }
     requires rows { remainder.rest.rows ≡ rows }
     requires standing { AreStanding ring rows c.old.members.items }
+    requires ready { AreReady ring rows c.old.members.items c.old.heads c.old.tails.items }
     requires pairs { ArePairsOf ring c.old.members.items c.old.pending.items }
-    ensures kept { OnOk result (completion_value c.new ≡ kept ring (start_value start) remainder.by.items remainder.rest.terms (completion_value c.old)) }
+    ensures kept { OnOk result
+        (completion_value c.new ≡ kept ring (start_value start) remainder.by.items remainder.rest.terms (completion_value c.old)) }
     ensures standing { OnOk result (AreStanding ring rows c.new.members.items) }
+    ensures ready { OnOk result (AreReady ring rows c.new.members.items c.new.heads c.new.tails.items) }
     ensures pairs { OnOk result (ArePairsOf ring c.new.members.items c.new.pending.items) }
 {
     let Some(head) = remainder.rest.head() else {
@@ -268,6 +307,7 @@ fn keep(
         &c.members,
         &mut c.pending,
     )?;
+    c.heads.add(ring, count as u32 + 1, &member)?;
     c.members.push(member)?;
     c.log.push(Entry {
         start,

@@ -1,4 +1,6 @@
 // Completions under way, and what they end in.
+use crate::head_index::HeadIndex;
+use crate::spreading::Tail;
 use crate::{CriticalPair, Entry};
 use fm_vec::Vector;
 
@@ -9,10 +11,12 @@ pub struct Basis {
     pub log: Vec<Entry>,
 }
 
-/// A completion under way: the members, the pending pairs in their order, and the log.
+/// A completion under way: the members with their heads, the tails of the first members, the pending pairs in their order, and the log.
 #[derive(Drop)]
 pub(crate) struct Completion {
     pub members: Vec<Vector>,
+    pub heads: HeadIndex,
+    pub tails: Vec<Tail>,
     pub pending: Vec<CriticalPair>,
     pub log: Vec<Entry>,
 }

@@ -5,6 +5,7 @@ ghost use Rattle.fm_complete.specs.declared.step.Step.{Step as StepValue};
 ghost use Rattle.fm_complete.specs.Divisions.{AreMembers, division_run, division_value, quotient_terms, quotients_from};
 ghost use Rattle.fm_run.specs.Runs.{Follows};
 
+use crate::head_index::HeadIndex;
 use crate::starting::reduce;
 use crate::{Division, Step};
 use fm_poly::{Poly, Ring, Term};
@@ -28,7 +29,9 @@ pub fn divide(
     if !work.spend() {
         return Err(Stop::Budget);
     }
-    let reduction = reduce(alloc, basis, v, work)?;
+    let heads = HeadIndex::of(alloc, v.ring(), v.length(), basis)?;
+    let mut tails = Vec::new(alloc);
+    let reduction = reduce(alloc, basis, &heads, &mut tails, v, work)?;
     let by = numbers(alloc, &reduction.steps)?;
     let quotients = quotients(alloc, v.ring(), basis.len(), &reduction.steps)?;
     Ok(Division {

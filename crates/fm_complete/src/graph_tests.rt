@@ -74,12 +74,11 @@ fn completed(
 ) -> Result<(Basis, u32), Stop>
     requires { ring.vars ≡ 2 }
 {
-    let inputs = [
-        column(alloc, ring, f, [1, 0, 0])?,
-        column(alloc, ring, g, [0, 1, 0])?,
-        column(alloc, ring, h, [0, 0, 1])?,
-    ];
+    let first = column(alloc, ring, f, [1, 0, 0])?;
+    let second = column(alloc, ring, g, [0, 1, 0])?;
+    let third = column(alloc, ring, h, [0, 0, 1])?;
     let mut work = Work::new(units);
+    let inputs = [&first, &second, &third];
     let basis = complete(alloc, ring, 4, &inputs, &mut work)?;
     Ok((basis, work.left()))
 }
@@ -164,71 +163,77 @@ fn each_smaller_budget_ends_the_completion(rt: HostRuntime) -> Result<(), Fail> 
     Ok(())
 }
 
-// x^2 + 2y, xy + 1 and y^2 + x over GF(3).
-#[test]
-fn rests_are_reduced_by_the_first_divisor(rt: HostRuntime) -> Result<(), Fail> {
-    let ring = Ring {
-        prime: Prime::Three,
-        vars: 2,
-        order: Order::Deglex,
-    };
-    let (basis, left) = completed(
-        rt.alloc(),
-        ring,
-        &[([2, 0], 1), ([0, 1], 2)],
-        &[([1, 1], 1), ([0, 0], 1)],
-        &[([0, 2], 1), ([1, 0], 1)],
-        8,
-    )?;
-    assert!(rt; left == 0);
-    assert!(rt;
-        shows(
-            &basis.log,
-            &[
-                kept(Start::Input(1), &[]),
-                kept(Start::Input(2), &[]),
-                kept(Start::Input(3), &[]),
-                kept(Start::Pair(2, 3), &[1]),
-                kept(Start::Pair(1, 2), &[3, 4]),
-                skip(1, 3, 2),
-            ]
-        )
-    );
-    Ok(())
+// Whether the completion of the graph of (f, g, h) spends so many units and has this log.
+fn gives(
+    alloc: Global,
+    ring: Ring,
+    row: [&[Listed]; 3],
+    units: u32,
+    want: &[Line],
+) -> Result<bool, Stop>
+    requires { ring.vars ≡ 2 }
+{
+    let [f, g, h] = row;
+    let (basis, left) = completed(alloc, ring, f, g, h, units)?;
+    Ok(left == 0 && shows(&basis.log, want))
 }
 
-// x^2 + y, xy + 1 and y^3 - xy over GF(31): heads in two components, and pairs of later members first.
-#[test]
-fn pairs_are_taken_in_their_order(rt: HostRuntime) -> Result<(), Fail> {
-    let ring = Ring {
-        prime: Prime::ThirtyOne,
+fn plane(prime: Prime, order: Order) -> Ring
+    ensures { result.vars ≡ 2 }
+{
+    Ring {
+        prime,
         vars: 2,
-        order: Order::Lex,
-    };
-    let (basis, left) = completed(
-        rt.alloc(),
-        ring,
-        &[([2, 0], 1), ([0, 1], 1)],
-        &[([1, 1], 1), ([0, 0], 1)],
-        &[([0, 3], 1), ([1, 1], 30)],
-        9,
-    )?;
-    assert!(rt; left == 0);
+        order,
+    }
+}
+
+// x^2 + 2y, xy + 1 and y^2 + x over GF(3): a rest is reduced by the first divisor. x^2 + y, xy + 1 and y^3 - xy over GF(31): heads in two
+// components, and pairs of later members first.
+#[test]
+fn logs_are_those_made_by_hand(rt: HostRuntime) -> Result<(), Fail> {
+    let alloc = rt.alloc();
+    let f: &[Listed] = &[([2, 0], 1), ([0, 1], 2)];
+    let g: &[Listed] = &[([1, 1], 1), ([0, 0], 1)];
+    let h: &[Listed] = &[([0, 2], 1), ([1, 0], 1)];
+    let deglex = [
+        kept(Start::Input(1), &[]),
+        kept(Start::Input(2), &[]),
+        kept(Start::Input(3), &[]),
+        kept(Start::Pair(2, 3), &[1]),
+        kept(Start::Pair(1, 2), &[3, 4]),
+        skip(1, 3, 2),
+    ];
     assert!(rt;
-        shows(
-            &basis.log,
-            &[
-                kept(Start::Input(1), &[]),
-                kept(Start::Input(2), &[]),
-                kept(Start::Input(3), &[2]),
-                kept(Start::Pair(2, 3), &[]),
-                kept(Start::Pair(2, 4), &[3]),
-                skip(3, 4, 2),
-                kept(Start::Pair(1, 4), &[2]),
-                skip(1, 2, 4),
-                skip(1, 3, 2),
-            ]
-        )
+        gives(
+            alloc,
+            plane(Prime::Three, Order::Deglex),
+            [f, g, h],
+            8,
+            &deglex
+        )?
+    );
+    let f: &[Listed] = &[([2, 0], 1), ([0, 1], 1)];
+    let h: &[Listed] = &[([0, 3], 1), ([1, 1], 30)];
+    let lex = [
+        kept(Start::Input(1), &[]),
+        kept(Start::Input(2), &[]),
+        kept(Start::Input(3), &[2]),
+        kept(Start::Pair(2, 3), &[]),
+        kept(Start::Pair(2, 4), &[3]),
+        skip(3, 4, 2),
+        kept(Start::Pair(1, 4), &[2]),
+        skip(1, 2, 4),
+        skip(1, 3, 2),
+    ];
+    assert!(rt;
+        gives(
+            alloc,
+            plane(Prime::ThirtyOne, Order::Lex),
+            [f, g, h],
+            9,
+            &lex
+        )?
     );
     Ok(())
 }

@@ -1,5 +1,5 @@
 // Laws of the standard division, over the definition of its run.
-ghost use Rattle.std.specs.Prelude.{List, Ok, [], true, ℕ, ◌++◌, ◌∷◌, ◌↔◌, ◌≡◌};
+ghost use Rattle.std.specs.Prelude.{List, Ok, [], length, true, ℕ, ◌+◌, ◌++◌, ◌≤◌, ◌∷◌, ◌↔◌, ◌≡◌};
 ghost use Rattle.fm_algebra.specs.Polynomials.{Polynomial, polynomial_product, polynomial_sum};
 ghost use Rattle.fm_poly.specs.declared.ring.Ring.{Ring};
 ghost use Rattle.fm_vec.specs.Components.{component_meaning};
@@ -14,6 +14,7 @@ ghost use Rattle.fm_vec.specs.Multiples.{monic_of, s_vector_fits, s_vector_of};
 ghost use Rattle.fm_complete.specs.Completions.{Completion, completed, numbers};
 ghost use Rattle.fm_complete.specs.Combinations.{AreVectors, IsReduced, combination};
 ghost use Rattle.fm_complete.specs.Reductions.{Reduced, divided};
+ghost use Rattle.fm_complete.specs.Within.{AllBounded, AreBounded};
 
 /// Where a division ends, the dividend is the sum of the quotients times the members plus the rest, component by component. The rest
 /// is zero, or no member's head divides its head (Cox, Little and O'Shea, Using Algebraic Geometry, chapter 5, section 2; only heads are reduced here).
@@ -61,4 +62,22 @@ pub fn a_completion_that_ends_is_complete()
         → (taken : List ℕ) × (treated : List (ℕ × ℕ)) × FreeRun r.prime r.vars m r.order is_bounded inputs c.log c.members taken treated × IsComplete inputs c.members taken treated }
     ensures basis { (r : Ring) (m : ℕ) (inputs : List (List VTerm)) (units left : ℕ) (c : Completion) → AreVectors r m inputs → completed r inputs units ≡ record { end = Ok c; left = left }
         → IsGroebnerBasis r.prime r.vars m r.order (vectors_of r.prime r.vars m c.members) (vectors_of r.prime r.vars m inputs) }
+{}
+
+/// The rest of a division that ends is within the bound on exponents, where the dividend is: each multiple that a step adds was tested.
+pub fn a_division_stays_within_the_bound()
+    ensures { (r : Ring) (members : List (List VTerm)) (units left : ℕ) (v : List VTerm) (x : Reduced) → AllBounded v
+        → divided r members units v ≡ record { end = Ok x; left = left } → AllBounded x.rest }
+{}
+
+/// The members of a completion that ends are within the bound on exponents, where the inputs are.
+pub fn a_completion_stays_within_the_bound()
+    ensures { (r : Ring) (inputs : List (List VTerm)) (units left : ℕ) (c : Completion) → AreBounded inputs
+        → completed r inputs units ≡ record { end = Ok c; left = left } → AreBounded c.members }
+{}
+
+/// A completion that ends has at most as many members as it has spent units: each rest that is kept costs at least one.
+pub fn a_completion_has_at_most_as_many_members_as_units()
+    ensures { (r : Ring) (inputs : List (List VTerm)) (units left : ℕ) (c : Completion)
+        → completed r inputs units ≡ record { end = Ok c; left = left } → length c.members + left ≤ units }
 {}

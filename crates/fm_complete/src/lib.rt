@@ -1,8 +1,10 @@
 // Division and completion of vectors by the standard run (Buchberger's algorithm for submodules, with the chain criterion).
 // A head reduction passes once over the vector and the member; a vector of more than a hundred terms is kept in buckets, where it passes
-// over a share of both. Finding the member is linear in the members, a new pair in the pending pairs, and a skip in both.
+// over a share of both. Finding the member is linear in the heads of one component, a new pair in the members and the pending pairs, and a
+// skip in the heads of one component and the pending pairs.
 #![tactic(auto)]
 
+pub(crate) mod borrowing;
 pub(crate) mod completing;
 pub(crate) mod completion;
 pub(crate) mod critical_pair;
@@ -11,6 +13,7 @@ pub mod division;
 pub(crate) mod entry;
 #[cfg(test)]
 mod graph_tests;
+pub(crate) mod head_index;
 pub mod laws;
 pub(crate) mod long;
 pub(crate) mod pairs;
@@ -24,6 +27,7 @@ pub(crate) mod stepping;
 #[cfg(test)]
 mod tests;
 
+pub use borrowing::{borrowed, complete_all};
 pub use completing::complete;
 pub use completion::Basis;
 pub use critical_pair::CriticalPair;

@@ -2,10 +2,12 @@
 ghost use Rattle.std.specs.Prelude.{IfNone, IfSome, MatchOption, None, OnOk, Some, [], drop, length, take, ℕ, ◌+◌, ◌++◌, ◌∷◌, ◌<◌, ◌^◌, ◌≡◌, ◌≤◌};
 ghost use Rattle.fm_term.specs.Falling.{IsTerm};
 ghost use Rattle.fm_complete.specs.Completions.{divides_pair, inserted, is_pending, lets_skip, skipper, with_pair, with_pairs};
+ghost use Rattle.fm_complete.specs.Indexed.{EachHead, IsIndexOf, first_skipper};
 ghost use Rattle.fm_complete.specs.Divisions.{AreMembers, terms_of};
 ghost use Rattle.fm_complete.specs.Pairs.{ArePairsOver};
 
 use crate::CriticalPair;
+use crate::head_index::{Head, HeadIndex};
 use fm_mono::Order;
 use fm_poly::Ring;
 use fm_term::VTerm;
@@ -143,9 +145,10 @@ fn skips(pending: &[CriticalPair], p: &CriticalPair, number: u32, f: &VTerm) -> 
     if !other || !divides {
         return false;
     }
-    let first = contains(pending, p.earlier, number);
-    let second = contains(pending, number, p.later);
-    !first && !second
+    if contains(pending, p.earlier, number) {
+        return false;
+    }
+    !contains(pending, number, p.later)
 }
 
 /// The first member that lets the pair be skipped.
@@ -153,24 +156,33 @@ pub(crate) fn find_skipper(
     ring: Ring,
     rows: u32,
     members: &[Vector],
+    heads: &HeadIndex,
     pending: &[CriticalPair],
     p: &CriticalPair,
 ) -> Option<u32>
-    requires members { AreMembers ring rows members.now }
-    requires few { length members.now < 2 ^ 32 }
+    requires heads { IsIndexOf ring rows (terms_of members.now) heads.now }
     requires pair { length p.now.lcm ≡ ring.vars }
     ensures { result ≡ skipper pending.now p.now 1 (terms_of members.now) }
 {
-    let mut number = 0;
-    let mut left = members;
-    'members: loop {
-        let (g, later) = left.split_first()?;
-        number += 1;
-        let Some(f) = g.head() else {
-            unreachable!();
-        };
-        if skips(pending, p, number, &f) {
-            return Some(number);
+    first_skipping(ring, heads.row(p.component), pending, p)
+}
+
+/// The number of the first of the heads whose member lets the pair be skipped.
+fn first_skipping(
+    ring: Ring,
+    heads: &[Head],
+    pending: &[CriticalPair],
+    p: &CriticalPair,
+) -> Option<u32>
+    requires heads { EachHead (λ h. IsTerm ring.prime ring.vars h.term) heads.now }
+    requires pair { length p.now.lcm ≡ ring.vars }
+    ensures { result ≡ first_skipper pending.now p.now heads.now }
+{
+    let mut left = heads;
+    'heads: loop {
+        let (h, later) = left.split_first()?;
+        if skips(pending, p, h.number, &h.term) {
+            return Some(h.number);
         }
         left = later;
     }

@@ -12,7 +12,7 @@ ghost use Rattle.fm_term.specs.Falling.{AreTerms, AreWithin};
 ghost use Rattle.fm_vec.specs.Vectors.{IsVector};
 ghost use Rattle.fm_term.specs.declared.vterm.VTerm.{VTerm as VectorTerm};
 ghost use Rattle.fm_complete.specs.Divisions.{AreMembers, terms_of};
-ghost use Rattle.fm_complete.specs.Spread.{AllFit, AreOf, AreParts, tail_column, tail_columns};
+ghost use Rattle.fm_complete.specs.Spread.{AllFit, AreOf, AreParts, IsFront, tail_column, tail_columns};
 
 use crate::Step;
 use fm_bucket::Bucket;
@@ -46,24 +46,24 @@ impl Tail {
     }
 }
 
-/// The members without their heads.
-pub(crate) fn tails(
+/// Appends the tails of the members that have none yet.
+pub(crate) fn fill_tails(
     alloc: Global,
     ring: Ring,
     rows: u32,
     basis: &[Vector],
-) -> Result<Vec<Tail>, AllocError>
+    tails: &mut Vec<Tail>,
+) -> Result<(), AllocError>
     requires members { AreMembers ring rows basis.now }
-    ensures { IfOk result (λ out. out.items ≡ tail_columns ring rows (terms_of basis.now)) }
+    requires front { IsFront tails.old.items (tail_columns ring rows (terms_of basis.now)) }
+    ensures { OnOk result (tails.new.items ≡ tail_columns ring rows (terms_of basis.now)) }
 {
-    let mut out = Vec::with_capacity(alloc, basis.len())?;
-    let mut basis = basis;
     'members: loop {
-        let Some((b, later)) = basis.split_first() else {
-            return Ok(out);
-        };
-        out.push(without_head(alloc, ring, rows, b)?)?;
-        basis = later;
+        let k = tails.len();
+        if k >= basis.len() {
+            return Ok(());
+        }
+        tails.push(without_head(alloc, ring, rows, &basis[k])?)?;
     }
 }
 
@@ -105,7 +105,8 @@ pub(crate) fn take_at(ring: Ring, buckets: &mut [Bucket], at: usize) -> Option<T
     requires { at < length buckets.old }
     ensures none { IfNone result ((n : ℕ) (v : List VectorTerm) → IsVector ring n v → AreFrom (at + 1) v → AreParts ring 1 buckets.old v
         → AreParts ring 1 buckets.new v × AreFrom (at + 2) v) }
-    ensures some { IfSome result (λ t. (n : ℕ) (v : List VectorTerm) → IsVector ring n v → AreFrom (at + 1) v → AreParts ring 1 buckets.old v
+    ensures some { IfSome result
+        (λ t. (n : ℕ) (v : List VectorTerm) → IsVector ring n v → AreFrom (at + 1) v → AreParts ring 1 buckets.old v
         → (ts : List VectorTerm) × (v ≡ record { component = at + 1; mono = t.mono; coeff = t.coeff } ∷ ts) × AreParts ring 1 buckets.new ts) }
     ensures count { length buckets.new ≡ length buckets.old }
 {
@@ -123,7 +124,9 @@ pub(crate) fn add_parts(
     requires parts { AreOver ring parts.now }
     requires long { length buckets.old ≡ length parts.now }
     requires term { IsCanonical ring (t.now ∷ []) }
-    ensures sum { OnOk result ((k n : ℕ) (ts f : List VectorTerm) → AreTerms ring.prime ring.vars ts → parts.now ≡ column_from ring n k ts → AreParts ring k buckets.old f
+    ensures sum { OnOk result
+        ((k n : ℕ) (ts f : List VectorTerm) → AreTerms ring.prime ring.vars ts → parts.now ≡ column_from ring n k ts
+        → AreParts ring k buckets.old f
         → AreParts ring k buckets.new (plus_multiple ring t.now.coeff t.now.mono ts f)) }
     ensures fits { OnOk result (AllFit t.now parts.now) }
     ensures exponent { IsErrOf result PolyError.Exponent → AllFit t.now parts.now → ⊥ }
@@ -146,7 +149,9 @@ fn add_part(ring: Ring, b: &mut Bucket, t: &Term, f: &Poly) -> Result<(), PolyEr
     requires part { f.now.ring ≡ ring }
     requires term { IsCanonical ring (t.now ∷ []) }
     ensures ring { b.new.ring ≡ b.old.ring }
-    ensures sum { OnOk result ((k : ℕ) (ts g : List VectorTerm) → AreTerms ring.prime ring.vars ts → f.now.terms ≡ component_terms k ts → levels_sum ring b.old.lists ≡ component_meaning ring k g
+    ensures sum { OnOk result
+        ((k : ℕ) (ts g : List VectorTerm) → AreTerms ring.prime ring.vars ts → f.now.terms ≡ component_terms k ts
+        → levels_sum ring b.old.lists ≡ component_meaning ring k g
         → levels_sum ring b.new.lists ≡ component_meaning ring k (plus_multiple ring t.now.coeff t.now.mono ts g)) }
     ensures fits { OnOk result (row_fits t.now f.now.terms ≡ true) }
     ensures exponent { IsErrOf result PolyError.Exponent → row_fits t.now f.now.terms ≡ false }
@@ -172,10 +177,14 @@ pub(crate) fn subtract(
     requires vars { length step.now.mono ≡ ring.vars }
     requires some { 0 < step.now.coeff }
     requires below { step.now.coeff < prime_value ring.prime }
-    ensures sum { OnOk result ((n : ℕ) (ts f : List VectorTerm) → AreTerms ring.prime ring.vars ts → tail.now ≡ column_from ring n 1 ts → AreParts ring 1 buckets.old f
+    ensures sum { OnOk result
+        ((n : ℕ) (ts f : List VectorTerm) → AreTerms ring.prime ring.vars ts → tail.now ≡ column_from ring n 1 ts
+        → AreParts ring 1 buckets.old f
         → AreParts ring 1 buckets.new (plus_multiple ring (negated ring step.now.coeff) step.now.mono ts f)) }
-    ensures fits { OnOk result ((n : ℕ) (ts : List VectorTerm) → AreWithin n ts → tail.now ≡ column_from ring n 1 ts → multiple_fits step.now.mono ts ≡ true) }
-    ensures exponent { IsErrOf result Stop.Exponent → (n : ℕ) (ts : List VectorTerm) → tail.now ≡ column_from ring n 1 ts → multiple_fits step.now.mono ts ≡ false }
+    ensures fits { OnOk result
+        ((n : ℕ) (ts : List VectorTerm) → AreWithin n ts → tail.now ≡ column_from ring n 1 ts → multiple_fits step.now.mono ts ≡ true) }
+    ensures exponent { IsErrOf result Stop.Exponent → (n : ℕ) (ts : List VectorTerm) → tail.now ≡ column_from ring n 1 ts
+        → multiple_fits step.now.mono ts ≡ false }
     ensures paid { IsErrOf result Stop.Budget → ⊥ }
     ensures count { length buckets.new ≡ length buckets.old }
 {
@@ -202,7 +211,8 @@ pub(crate) fn finish(
     requires holds { (ts : List VectorTerm) × IsVector ring rows (head ∷ ts) × AreParts ring 1 buckets.now ts }
     ensures ring { IfOk result (λ v. v.ring ≡ ring) }
     ensures rows { IfOk result (λ v. v.rows ≡ rows) }
-    ensures terms { IfOk result (λ v. (ts : List VectorTerm) → IsVector ring rows (head ∷ ts) → AreParts ring 1 buckets.now ts → v.terms ≡ head ∷ ts) }
+    ensures terms { IfOk result
+        (λ v. (ts : List VectorTerm) → IsVector ring rows (head ∷ ts) → AreParts ring 1 buckets.now ts → v.terms ≡ head ∷ ts) }
 {
     let column = gather(alloc, buckets)?;
     let later = Vector::from_column(alloc, ring, &column)?;
@@ -214,7 +224,9 @@ pub(crate) fn finish(
 
 /// The components of the vector that the buckets hold.
 pub(crate) fn gather(alloc: Global, buckets: &[Bucket]) -> Result<Vec<Poly>, AllocError>
-    ensures column { IfOk result (λ out. (r : RingValue) (n : ℕ) (v : List VectorTerm) → IsVector r n v → AreParts r 1 buckets.now v → out.items ≡ column_from r (length buckets.now) 1 v) }
+    ensures column { IfOk result
+        (λ out. (r : RingValue) (n : ℕ) (v : List VectorTerm) → IsVector r n v → AreParts r 1 buckets.now v
+        → out.items ≡ column_from r (length buckets.now) 1 v) }
     ensures over { IfOk result (λ out. (r : RingValue) → AreOf r buckets.now → AreOver r out.items) }
 {
     let mut out = Vec::with_capacity(alloc, buckets.len())?;

@@ -6,9 +6,12 @@ ghost use Rattle.fm_term.specs.Falling.{IsTerm};
 ghost use Rattle.fm_vec.specs.Vectors.{IsVector};
 ghost use Rattle.fm_complete.specs.Divisions.{AreMembers, terms_of};
 ghost use Rattle.fm_complete.specs.Divisors.{first_step, step_for, term_divides};
+ghost use Rattle.fm_complete.specs.Indexed.{EachHead, IsIndexOf, first_head};
 ghost use Rattle.fm_complete.specs.Reductions.{cancelled};
 
 use crate::Step;
+use crate::head_index::{Head, HeadIndex};
+use crate::pairs::member;
 use fm_poly::{PolyError, Ring};
 use fm_run::Stop;
 use fm_term::VTerm;
@@ -19,28 +22,41 @@ pub(crate) fn find_step<'a>(
     ring: Ring,
     rows: u32,
     basis: &'a [Vector],
+    heads: &HeadIndex,
     t: &VTerm,
 ) -> Option<(Step, &'a Vector)>
     requires term { IsTerm ring.prime ring.vars t.now }
     requires members { AreMembers ring rows basis.now }
+    requires heads { IsIndexOf ring rows (terms_of basis.now) heads.now }
     requires few { length basis.now < 2 ^ 32 }
-    ensures found { MatchOption result (first_step ring 1 (terms_of basis.entry.now) t.now ≡ None) (λ p. first_step ring 1 (terms_of basis.entry.now) t.now ≡ Some (p.0, p.1.now.terms)) }
+    ensures found { MatchOption result (first_step ring 1 (terms_of basis.entry.now) t.now ≡ None)
+        (λ p. first_step ring 1 (terms_of basis.entry.now) t.now ≡ Some (p.0, p.1.now.terms)) }
     ensures member { IfSome result (λ p. (p.1.now.ring ≡ ring) × (p.1.now.rows ≡ rows)) }
     ensures proper { IfSome result (λ p. IsVector ring rows p.1.now.terms) }
     ensures step { IfSome result (λ p. (length p.0.mono ≡ ring.vars) × (0 < p.0.coeff) × (p.0.coeff < prime_value ring.prime)) }
 {
-    let mut number = 0;
-    let mut basis = basis;
-    'members: loop {
-        let (b, later) = basis.split_first()?;
-        number += 1;
-        let Some(head) = b.head() else {
-            unreachable!();
-        };
-        if divides(ring, &head, t) {
-            return Some((step_to(ring, number, &head, t), b));
+    let Some(head) = first_dividing(ring, heads.row(t.component), t) else {
+        return None;
+    };
+    let b = member(ring, rows, basis, head.number);
+    let _terms = b.head();
+    let step = step_to(ring, head.number, &head.term, t);
+    Some((step, b))
+}
+
+/// The first of the heads that divides t.
+fn first_dividing(ring: Ring, heads: &[Head], t: &VTerm) -> Option<Head>
+    requires term { IsTerm ring.prime ring.vars t.now }
+    requires heads { EachHead (λ h. IsTerm ring.prime ring.vars h.term) heads.now }
+    ensures { result ≡ first_head heads.now t.now }
+{
+    let mut left = heads;
+    'heads: loop {
+        let (h, later) = left.split_first()?;
+        if divides(ring, &h.term, t) {
+            return Some(*h);
         }
-        basis = later;
+        left = later;
     }
 }
 
@@ -87,7 +103,8 @@ pub(crate) fn cancel(
     requires vars { length step.now.mono ≡ v.now.ring.vars }
     requires some { 0 < step.now.coeff }
     requires below { step.now.coeff < prime_value v.now.ring.prime }
-    ensures value { IfOk result (λ w. w ≡ record { ring = v.now.ring; rows = v.now.rows; terms = cancelled v.now.ring (step.now, b.now.terms) v.now.terms }) }
+    ensures value { IfOk result
+        (λ w. w ≡ record { ring = v.now.ring; rows = v.now.rows; terms = cancelled v.now.ring (step.now, b.now.terms) v.now.terms }) }
     ensures fits { OnOk result (multiple_fits step.now.mono b.now.terms ≡ true) }
     ensures exponent { IsErrOf result Stop.Exponent → multiple_fits step.now.mono b.now.terms ≡ false }
     ensures paid { IsErrOf result Stop.Budget → ⊥ }

@@ -1,5 +1,6 @@
 pub mod Loops
+pub mod Plans
 pub mod Whole
-pub mod SameTexts
+pub mod MemberBlocks
 pub mod Reported
 pub mod FaultLines

@@ -1,6 +1,6 @@
 -- The report of a problem that is read can be written, and what it states holds.
 use Rattle.std.proofs.Common.{◌≡◌, ◌≢◌, ◌<◌, ◌+◌, ◌^◌, ℕ, zero, suc, Bool, true, false, ◌&&◌, List, [], ◌∷◌, ◌++◌, All, length, nat_eq, slice_get, Option, Some, None, Ok, refl, sym, ◌∙◌, ap, subst, arith}
-use Rattle.std.specs.Prelude.{Result}
+use Rattle.std.specs.Prelude.{Result, Err}
 use Rattle.std.specs.List.{list_all}
 use Rattle.std.proofs.lemmas.Bool.{and_parts, and_from, eqb-true, eq-eqb}
 use Rattle.std.proofs.lemmas.List.{length-replicate}
@@ -9,21 +9,26 @@ use Rattle.fm_gfp.proofs.Residues.{prime_above_one}
 use Rattle.fm_mono.proofs.Bounds.{zeros_within}
 use Rattle.fm_limit.specs.Verdicts.{RestsOn, Holds, zero_class}
 use Rattle.fm_poly.specs.Polys.{PolyValue, IsCanonical, pairs, meaning}
-use Rattle.fm_poly.specs.Texts.{AreNames}
+use Rattle.fm_words.specs.Words.{AreNames}
+use Rattle.fm_poly.specs.Bounds.{AreWithinBound}
 use Rattle.fm_words.specs.Parts.{Bytes}
-use Rattle.fm_run.specs.declared.stop.Stop.TheVariants.{Budget, Exponent, Memory}
-use Rattle.fm_principal.specs.declared.task.Task.{Task}
-use Rattle.fm_principal.specs.declared.task.Task.TheVariants.{Lift, Stage}
-use Rattle.fm_principal.specs.Plans.{PlanEnd, answered, stopped, column_vector, plan_end}
+use Rattle.fm_run.specs.declared.task.Task.{Task}
+use Rattle.fm_run.specs.Runs.{Ending, Halt, Budget, Exponent}
+use Rattle.fm_run.specs.Tasks.{HaltedTask}
+use Rattle.std.specs.Fmt.{digits}
+use Rattle.fm_principal.specs.Plans.{Decided, column_vector, class_plan, lift_task, stage_task}
+use Rattle.fm_cert.specs.Ends.{task_words}
+use Rattle.fm_decide.proofs.Plans.{AllHalt, plan_halts}
 use Rattle.fm_principal.specs.PrincipalQueries.{PrincipalQuery, stage_found, principal_ideal, IsRight}
-use Rattle.fm_principal.proofs.Rightness.{theta_is_one, theta_is_bounded, plan_is_right}
+use Rattle.fm_principal.proofs.Rightness.{plan_is_right}
 use Rattle.fm_principal.proofs.Verdicts.{right_holds}
 use Rattle.fm_problem.specs.declared.problem.Problem.{Problem}
 use Rattle.fm_problem.specs.declared.ideal.Ideal.{Ideal}
 use Rattle.fm_problem.specs.declared.query.Query.{Query}
 use Rattle.fm_problem.specs.declared.query.Query as queries
 use Rattle.fm_problem.specs.Problems.{is_principal, is_built, problem_of}
-use Rattle.fm_problem.specs.Sound.{IsPolynomialOf, IsIdealOf, IsQueryOf, IsProblem, AreSmall, AreSmallIdeals, IsSmallQuery, AreSmallQueries, HasSmallExponents}
+use Rattle.fm_text.specs.SumOfTerms.{IsPolynomialOf}
+use Rattle.fm_problem.specs.Sound.{IsIdealOf, IsQueryOf, IsProblem, AreSmall, AreSmallIdeals, IsSmallQuery, AreSmallQueries, HasSmallExponents}
 use Rattle.fm_problem.proofs.SoundProblems.{problem_sound}
 use Rattle.fm_problem.proofs.SmallExponents.{problem_within}
 use Rattle.fm_cert.specs.Fields.{Values}
@@ -41,7 +46,8 @@ use Rattle.fm_report.proofs.Holding.{all_hold_append}
 use Rattle.fm_report.proofs.NamingsSaid.{GridsGood}
 use Rattle.fm_report.proofs.BlocksSaid.{unanswered_writable, unanswered_says, answer_writable, answer_says}
 use Rattle.fm_report.proofs.ReportsRead.{report_holds}
-use Rattle.fm_decide.specs.Answers.{task_name, resolution_grids, lift_grids, one_poly, ended_class, class_answer, answers, report_bytes}
+use Rattle.fm_decide.specs.Answers.{resolution_grids, lift_grids, one_poly, ended_class, halted_report, class_answer, member_answer, answers, report_bytes}
+use Rattle.fm_decide.proofs.MemberBlocks.{member_good}
 
 module _ (q : Problem) (sound : IsProblem q) (small : HasSmallExponents q) where
   names_are : AreNames q.vars
@@ -68,17 +74,25 @@ module _ (q : Problem) (sound : IsProblem q) (small : HasSmallExponents q) where
       holds = subst AllHold (sym (unanswered_says q sound small k few query of low kind values none ans w)) tt;
     }
 
-    task_some : (task : Task) → 0 < length (task_name task)
-    task_some Lift = omega arith
-    task_some Stage = omega arith
+    -- a task that is written with a word and perhaps a number
+    abbrev IsSpelled : Task → Type 0
+    IsSpelled task = (0 < length (task_words task)) × (list_all is_word (task_words task) ≡ true)
 
-    task_words : (task : Task) → list_all is_word (task_name task) ≡ true
-    task_words Lift = refl
-    task_words Stage = refl
+    lift_spelled : IsSpelled lift_task
+    unfolding digits
+    lift_spelled = (omega arith, refl)
+
+    stage_spelled : IsSpelled stage_task
+    unfolding digits
+    stage_spelled = (omega arith, refl)
+
+    halted_good : (task : Task) (halt : Halt) → IsSpelled task → GoodBlock (halted_report query task halt)
+    halted_good task Budget spelled = stopped_good kinds.Budget (task_words task, tt) refl tt (spelled, tt)
+    halted_good task Exponent spelled = stopped_good kinds.Exponents (task_words task, tt) refl tt (spelled, tt)
 
     -- ---- with an answer
-    module _ (t : PolyValue) (b : Bool) (units : ℕ) (t_ring : t.ring ≡ q.ring) (t_canonical : IsCanonical q.ring t.terms)
-        (ends : plan_end (column_vector q.ring (f ∷ [])) e (column_vector q.ring (z ∷ [])) units ≡ answered (t ∷ []) b) where
+    module _ (t : PolyValue) (b : Bool) (t_ring : t.ring ≡ q.ring) (t_canonical : IsCanonical q.ring t.terms) (t_within : AreWithinBound (pairs t.terms))
+        (right : IsRight q.ring.prime q.ring.vars (record { f = pairs f.terms; stage = e; z = pairs z.terms; theta = pairs t.terms; divides = b })) where
       abbrev ds : List Grid
       ds = resolution_grids (f ∷ [])
 
@@ -89,7 +103,7 @@ module _ (q : Problem) (sound : IsProblem q) (small : HasSmallExponents q) where
       f_writable = writable_polynomial q.ring q.vars names_are sound.bounded.named f f_sound f_small
 
       t_writable : IsWritablePolynomial q.ring t
-      t_writable = record { of_ring = t_ring; canonical = t_canonical; within = theta_is_bounded q.ring f z t e units b ends }
+      t_writable = record { of_ring = t_ring; canonical = t_canonical; within = t_within }
 
       one_writable : IsWritablePolynomial q.ring (one_poly q.ring)
       one_writable = record {
@@ -114,9 +128,6 @@ module _ (q : Problem) (sound : IsProblem q) (small : HasSmallExponents q) where
       about : (nat_eq m m && nat_eq 1 1) ≡ true
       about = and_from _ _ (eq-eqb m m refl) refl
 
-      right : IsRight q.ring.prime q.ring.vars (record { f = pairs f.terms; stage = e; z = pairs z.terms; theta = pairs t.terms; divides = b })
-      right = plan_is_right q.ring f z t e units b f_sound.canonical z_sound.canonical some ends
-
       abbrev block : Block
       block = record { ideal = m; degree = 1; differentials = given 1 ((f ∷ []) ∷ []) ∷ given 1 [] ∷ []; lift = given 1 ((one_poly q.ring ∷ []) ∷ []) ∷ given 1 ((t ∷ []) ∷ []) ∷ []; cocycles = []; kernels = []; morphism = [] }
 
@@ -138,7 +149,7 @@ module _ (q : Problem) (sound : IsProblem q) (small : HasSmallExponents q) where
           ap (λ o. Rattle.std.specs.Prelude.option_map (λ fs. zero_class 1 (resolved q.ring fs block) e (meant q.ring (z ∷ [])) (stage_found b e)) (Rattle.std.specs.Prelude.option_map (λ (x : Ideal). x.generators) o)) there
           ∙ ap (λ fs. Some (zero_class 1 (resolved q.ring fs block) e (meant q.ring (z ∷ [])) (stage_found b e))) single
 
-      answered_good : GoodBlock (ended_class q 1 m e (z ∷ []) (f ∷ []) (answered (t ∷ []) b))
+      answered_good : GoodBlock (ended_class q 1 m e (z ∷ []) (f ∷ []) (Ok (record { theta = t ∷ []; is_zero = b })))
       answered_good = record {
         writable = answer_writable q sound small k few query of low kinds.Class (stage_found b e, tt) refl refl (stage_small b, tt) m 1 of.1 (omega arith) about ds ts grids (omega arith) (omega arith) (omega arith);
         holds = subst AllHold
@@ -148,18 +159,24 @@ module _ (q : Problem) (sound : IsProblem q) (small : HasSmallExponents q) where
       }
 
     -- ---- either way
-    ended_good : (units : ℕ) (end : PlanEnd) → plan_end (column_vector q.ring (f ∷ [])) e (column_vector q.ring (z ∷ [])) units ≡ end → GoodBlock (ended_class q 1 m e (z ∷ []) (f ∷ []) end)
-    ended_good units (stopped task Budget) is = stopped_good kinds.Budget (task_name task, tt) refl tt ((task_some task, task_words task), tt)
-    ended_good units (stopped task Memory) is = stopped_good kinds.Budget (task_name task, tt) refl tt ((task_some task, task_words task), tt)
-    ended_good units (stopped task Exponent) is = stopped_good kinds.Exponents (task_name task, tt) refl tt ((task_some task, task_words task), tt)
-    ended_good units (answered theta b) is =
-        let one = theta_is_one q.ring f z e units theta b f_sound.canonical is in
-        subst (λ ts. GoodBlock (ended_class q 1 m e (z ∷ []) (f ∷ []) (answered ts b))) (sym one.1)
-        (answered_good one.0 b units one.2 one.3 (is ∙ ap (λ ts. answered ts b) one.1))
+    abbrev plan : ℕ → Ending HaltedTask Decided
+    plan units = class_plan (column_vector q.ring (f ∷ [])) e (column_vector q.ring (z ∷ [])) units
 
-    class_good : (units : ℕ) → GoodBlock (ended_class q 1 m e (z ∷ []) a.generators (plan_end (column_vector q.ring a.generators) e (column_vector q.ring (z ∷ [])) units))
-    class_good units = subst (λ fs. GoodBlock (ended_class q 1 m e (z ∷ []) fs (plan_end (column_vector q.ring fs) e (column_vector q.ring (z ∷ [])) units))) (sym single)
-        (ended_good units (plan_end (column_vector q.ring (f ∷ [])) e (column_vector q.ring (z ∷ [])) units) refl)
+    ended_good : (units left : ℕ) (end : Result Decided HaltedTask) → plan units ≡ record { end = end; left = left }
+        → GoodBlock (ended_class q 1 m e (z ∷ []) (f ∷ []) end)
+    ended_good units left (Err h) is =
+        halted_good h.task h.halt
+        (subst (AllHalt IsSpelled) (ap (λ (d : Ending HaltedTask Decided). d.end) is)
+        (plan_halts IsSpelled (column_vector q.ring (f ∷ [])) e (column_vector q.ring (z ∷ [])) lift_spelled stage_spelled units))
+    ended_good units left (Ok d) is =
+        let one = plan_is_right q.ring f z e units left d is in
+        let sound = one.4 f_sound.canonical in
+        subst (λ ts. GoodBlock (ended_class q 1 m e (z ∷ []) (f ∷ []) (Ok (record { theta = ts; is_zero = d.is_zero })))) (sym one.1)
+        (answered_good one.0 d.is_zero one.2 sound.0 one.3 (sound.1 z_sound.canonical some))
+
+    class_good : (units : ℕ) → GoodBlock (ended_class q 1 m e (z ∷ []) a.generators (class_plan (column_vector q.ring a.generators) e (column_vector q.ring (z ∷ [])) units).end)
+    class_good units = subst (λ fs. GoodBlock (ended_class q 1 m e (z ∷ []) fs (class_plan (column_vector q.ring fs) e (column_vector q.ring (z ∷ [])) units).end)) (sym single)
+        (ended_good units (plan units).left (plan units).end refl)
 
   -- ---- queries
   not_true : false ≡ true → ⊥
@@ -192,15 +209,29 @@ module _ (q : Problem) (sound : IsProblem q) (small : HasSmallExponents q) where
       let entry = single_of z (and_parts _ _ (and_parts _ _ built).1).1 in
       let sole = single_of a.generators h in
       let good = ideal_at q.ideals m a is sound.ideals small.ideals in
-      let P : ℕ → List PolyValue → Type 0 = λ j zs. GoodFrom units k (ended_class q j m e zs a.generators (plan_end (column_vector q.ring a.generators) e (column_vector q.ring zs) units) ∷ bs) in
+      let P : ℕ → List PolyValue → Type 0 = λ j zs. GoodFrom units k (ended_class q j m e zs a.generators (class_plan (column_vector q.ring a.generators) e (column_vector q.ring zs) units).end ∷ bs) in
       let of' : IsQueryOf q (queries.TheVariants.Class 1 m e (entry.0 ∷ [])) = subst (λ zs. IsQueryOf q (queries.TheVariants.Class 1 m e zs)) entry.1 (subst (λ j. IsQueryOf q (queries.TheVariants.Class j m e z)) degree of) in
       let low' : IsSmallQuery (queries.TheVariants.Class 1 m e (entry.0 ∷ [])) = subst AreSmall entry.1 low in
       let f_sound = All-head (IsPolynomialOf q.ring) sole.0 [] (subst (All (IsPolynomialOf q.ring)) sole.1 good.0.of_ring) in
       let f_small = (subst AreSmall sole.1 good.1).0 in
       let f_some = All-head (λ (x : PolyValue). x.terms ≢ []) sole.0 [] (subst (All (λ (x : PolyValue). x.terms ≢ [])) sole.1 good.0.nonzero) in
       let g = class_good k few m e entry.0 of' low' a is sole.0 sole.1 f_sound f_small f_some units in
-      let there : P 1 (entry.0 ∷ []) = with_block units k (ended_class q 1 m e (entry.0 ∷ []) a.generators (plan_end (column_vector q.ring a.generators) e (column_vector q.ring (entry.0 ∷ [])) units)) bs g.writable g.holds rest in
+      let there : P 1 (entry.0 ∷ []) = with_block units k (ended_class q 1 m e (entry.0 ∷ []) a.generators (class_plan (column_vector q.ring a.generators) e (column_vector q.ring (entry.0 ∷ [])) units).end) bs g.writable g.holds rest in
       subst (λ j. P j z) (sym degree) (subst (P 1) (sym entry.1) there)
+
+  -- a number within the list has an ideal
+  ideal_there : (is : List Ideal) (m : ℕ) → m < length is → slice_get is m ≡ None → ⊥
+  ideal_there [] m h e = omega (arith, h)
+  ideal_there (j ∷ is) zero h e = cc
+  ideal_there (j ∷ is) (suc m) h e = ideal_there is m (omega (arith, h)) e
+
+  member_from : (units k m : ℕ) (f : PolyValue) (bs : List QueryReport) → suc k < 2 ^ 64 → IsQueryOf q (queries.TheVariants.Member m f) → IsSmallQuery (queries.TheVariants.Member m f) → GoodFrom units (suc k) bs
+      → (o : Option Ideal) → slice_get q.ideals m ≡ o → GoodFrom units k (member_answer units q m f o ++ bs)
+  member_from units k m f bs few of low rest None is = absurd (ideal_there q.ideals m of.0 is)
+  member_from units k m f bs few of low rest (Some a) is =
+      let ideal = ideal_at q.ideals m a is sound.ideals small.ideals in
+      let g = member_good q sound small k few m f of low a is ideal.0 ideal.1 units in
+      subst (λ xs. GoodFrom units k (xs ++ bs)) (sym g.is) (with_block units k g.block bs g.good.writable g.good.holds rest)
 
   queries_good : (units k : ℕ) (zs : List Query) → k + length zs < 2 ^ 64 → All (IsQueryOf q) zs → AreSmallQueries zs → All (λ z. is_built q.ideals z ≡ true) zs → GoodFrom units k (answers units q zs)
   queries_good units k [] few of low built = record { writable = tt; holds = tt }
@@ -214,7 +245,10 @@ module _ (q : Problem) (sound : IsProblem q) (small : HasSmallExponents q) where
   queries_good units k (queries.TheVariants.Invert i m f ∷ zs) few of low built = absurd (not_true (All-head (λ x. is_built q.ideals x ≡ true) (queries.TheVariants.Invert i m f) zs built))
   queries_good units k (queries.TheVariants.Support i m ∷ zs) few of low built = absurd (not_true (All-head (λ x. is_built q.ideals x ≡ true) (queries.TheVariants.Support i m) zs built))
   queries_good units k (queries.TheVariants.Map i m j ∷ zs) few of low built = absurd (not_true (All-head (λ x. is_built q.ideals x ≡ true) (queries.TheVariants.Map i m j) zs built))
-  queries_good units k (queries.TheVariants.Member m f ∷ zs) few of low built = absurd (not_true (All-head (λ x. is_built q.ideals x ≡ true) (queries.TheVariants.Member m f) zs built))
+  queries_good units k (queries.TheVariants.Member m f ∷ zs) few of low built =
+      member_from units k m f (answers units q zs) (omega (arith, few)) (All-head (IsQueryOf q) (queries.TheVariants.Member m f) zs of) low.0
+      (queries_good units (suc k) zs (omega (arith, few)) (All-tail (IsQueryOf q) (queries.TheVariants.Member m f) zs of) low.1 (All-tail (λ x. is_built q.ideals x ≡ true) (queries.TheVariants.Member m f) zs built))
+      (slice_get q.ideals m) refl
   queries_good units k (queries.TheVariants.Resolution i m ∷ zs) few of low built = absurd (not_true (All-head (λ x. is_built q.ideals x ≡ true) (queries.TheVariants.Resolution i m) zs built))
   queries_good units k (queries.TheVariants.ExtOf i m ∷ zs) few of low built = absurd (not_true (All-head (λ x. is_built q.ideals x ≡ true) (queries.TheVariants.ExtOf i m) zs built))
 

@@ -1,34 +1,47 @@
 -- The pieces of a report make the report.
-use Rattle.std.proofs.Common.{◌≡◌, ◌∙◌, ℕ, List, [], ◌∷◌, ◌++◌, map, codes, sym, ap, ap₂, append_assoc}
-use Rattle.std.proofs.lemmas.Grind.{flat_map-append}
-use Rattle.fm_poly.specs.Texts.{Bytes}
+use Rattle.std.proofs.Common.{◌≡◌, ◌∙◌, ℕ, List, [], ◌∷◌, ◌++◌, sym, ap, append_assoc}
+use Rattle.fm_words.specs.Parts.{Bytes}
 use Rattle.fm_problem.specs.declared.problem.Problem.{Problem}
-use Rattle.fm_writer.specs.Writing.{ideal_words, line_text, query_lines, report_text}
-use Rattle.fm_writer.specs.Heads.{head_lines}
-use Rattle.fm_writer.specs.Lines.{lines_text}
-use Rattle.fm_decide.specs.Reports.{ideal_entry, reports_of, report_of}
+use Rattle.fm_cert.specs.Kinds as kinds
+use Rattle.fm_cert.specs.Lines.{Line, Question, Row, line_text, lines_text}
+use Rattle.fm_cert.specs.Questions.{head_lines, question_line}
+use Rattle.fm_cert.proofs.LinesWritten.{line_first, no_lines, text_append}
+use Rattle.fm_report.specs.Reports.{QueryReport, block_lines, query_lines, report_text}
+use Rattle.fm_decide.specs.Answers.{answers, report_bytes}
+use Rattle.std.proofs.Common.{append-nil}
 
-four_parts : (a b c d : List (List Bytes)) → lines_text (a ++ (b ++ (c ++ d))) ≡ lines_text a ++ (lines_text b ++ (lines_text c ++ lines_text d))
-four_parts a b c d =
-    flat_map-append line_text a (b ++ (c ++ d))
-    ∙ ap (λ l. lines_text a ++ l) (flat_map-append line_text b (c ++ d) ∙ ap (λ l. lines_text b ++ l) (flat_map-append line_text c d))
+-- one line
+one_line : (names : List Bytes) (l : Line) → lines_text names (l ∷ []) ≡ line_text names l ++ 10 ∷ []
+one_line names l = line_first names l [] ∙ ap (λ y. (line_text names l ++ 10 ∷ []) ++ y) (no_lines names) ∙ append-nil (line_text names l ++ 10 ∷ [])
 
-regrouped : (a b c d : Bytes) → ((a ++ b) ++ c) ++ d ≡ a ++ (b ++ (c ++ d))
-regrouped a b c d = append_assoc (a ++ b) c d ∙ append_assoc a b (c ++ d)
+pub report_written : (units : ℕ) (q : Problem) (s0 s1 s2 s3 : Bytes) → s0 ≡ [] → s1 ≡ s0 ++ lines_text q.vars (head_lines q)
+    → s2 ≡ s1 ++ lines_text q.vars (query_lines q 1 (answers units q q.queries))
+    → s3 ≡ s2 ++ (line_text q.vars (Row kinds.EndReport tt) ++ 10 ∷ []) → s3 ≡ report_bytes units q
+unfolding report_bytes report_text
+report_written units q s0 s1 s2 s3 e0 e1 e2 e3 =
+    let head = lines_text q.vars (head_lines q) in
+    let blocks = query_lines q 1 (answers units q q.queries) in
+    let last : Line = Row kinds.EndReport tt in
+    e3 ∙ ap (λ y. y ++ (line_text q.vars last ++ 10 ∷ [])) (e2 ∙ ap (λ y. y ++ lines_text q.vars blocks) (e1 ∙ ap (λ y. y ++ head) e0))
+    ∙ ap (λ y. (head ++ lines_text q.vars blocks) ++ y) (sym (one_line q.vars last))
+    ∙ append_assoc head (lines_text q.vars blocks) (lines_text q.vars (last ∷ []))
+    ∙ ap (λ y. head ++ y) (sym (text_append q.vars blocks (last ∷ []))) ∙ sym (text_append q.vars (head_lines q) (blocks ++ last ∷ []))
 
-pub report_written : (units : ℕ) (q : Problem) (names : List Bytes) (s0 s1 s2 s3 s4 : Bytes) → names ≡ q.vars → s0 ≡ []
-    → s1 ≡ s0 ++ lines_text (head_lines q.ring.prime names q.ring.order)
-    → s2 ≡ s1 ++ lines_text (map (ideal_words q.vars) (map ideal_entry q.ideals))
-    → s3 ≡ s2 ++ lines_text (query_lines q.vars 1 (reports_of units q q.queries))
-    → s4 ≡ s3 ++ (codes "end report" ++ 10 ∷ [])
-    → s4 ≡ report_text (report_of units q)
-unfolding report_text report_of
-report_written units q names s0 s1 s2 s3 s4 named e0 e1 e2 e3 e4 =
-    let head = lines_text (head_lines q.ring.prime q.vars q.ring.order) in
-    let ideals = lines_text (map (ideal_words q.vars) (map ideal_entry q.ideals)) in
-    let queries = lines_text (query_lines q.vars 1 (reports_of units q q.queries)) in
-    let last = codes "end report" ++ 10 ∷ [] in
-    let first : s1 ≡ head = e1 ∙ ap₂ (λ s n. s ++ lines_text (head_lines q.ring.prime n q.ring.order)) e0 named in
-    e4 ∙ ap (λ s. s ++ last) (e3 ∙ ap (λ s. s ++ queries) (e2 ∙ ap (λ s. s ++ ideals) first))
-    ∙ regrouped head ideals queries last
-    ∙ sym (four_parts (head_lines q.ring.prime q.vars q.ring.order) (map (ideal_words q.vars) (map ideal_entry q.ideals)) (query_lines q.vars 1 (reports_of units q q.queries)) ((codes "end" ∷ codes "report" ∷ []) ∷ []))
+-- the lines of a block
+pub block_written : (q : Problem) (k : ℕ) (b : QueryReport) (s0 s1 s2 s3 s4 : Bytes)
+    → s1 ≡ s0 ++ (line_text q.vars (Question k (question_line q b.question)) ++ 10 ∷ [])
+    → s2 ≡ s1 ++ (line_text q.vars (Row (kinds.Ended b.kind) b.values) ++ 10 ∷ []) → s3 ≡ s2 ++ lines_text q.vars b.lines
+    → s4 ≡ s3 ++ (line_text q.vars (Row kinds.Done (k, tt)) ++ 10 ∷ []) → s4 ≡ s0 ++ lines_text q.vars (block_lines q k b)
+block_written q k b s0 s1 s2 s3 s4 e1 e2 e3 e4 =
+    let text : Line → Bytes = λ l. line_text q.vars l ++ 10 ∷ [] in
+    let asked : Line = Question k (question_line q b.question) in
+    let ended : Line = Row (kinds.Ended b.kind) b.values in
+    let done : Line = Row kinds.Done (k, tt) in
+    let rest = lines_text q.vars b.lines in
+    e4 ∙ ap (λ y. y ++ text done) (e3 ∙ ap (λ y. y ++ rest) (e2 ∙ ap (λ y. y ++ text ended) e1))
+    ∙ append_assoc ((s0 ++ text asked) ++ text ended) rest (text done) ∙ append_assoc (s0 ++ text asked) (text ended) (rest ++ text done)
+    ∙ append_assoc s0 (text asked) (text ended ++ (rest ++ text done))
+    ∙ ap (λ y. s0 ++ (text asked ++ (text ended ++ (rest ++ y)))) (sym (one_line q.vars done))
+    ∙ ap (λ y. s0 ++ (text asked ++ (text ended ++ y))) (sym (text_append q.vars b.lines (done ∷ [])))
+    ∙ ap (λ y. s0 ++ (text asked ++ y)) (sym (line_first q.vars ended (b.lines ++ done ∷ [])))
+    ∙ ap (λ y. s0 ++ y) (sym (line_first q.vars asked (ended ∷ b.lines ++ done ∷ [])))

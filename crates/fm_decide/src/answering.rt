@@ -1,19 +1,21 @@
 // The report of a problem.
-ghost use Rattle.std.specs.Prelude.{All, IfOk, OnOk, [], length, map, string_bytes, true, ◌++◌, ◌+◌, ◌∷◌, ◌≡◌, ◌<◌, ◌≤◌, ◌^◌};
-ghost use Rattle.fm_decide.specs.Answers.{answers, are_answered, report_bytes};
-ghost use Rattle.fm_decide.specs.Reports.{all_answered, class_report_of, ideal_entry, is_answered, query_reports, reports_of};
+ghost use Rattle.std.specs.Prelude.{IfOk, OnOk, true, ◌++◌, ◌<◌, ◌^◌, ◌≡◌};
+ghost use Rattle.fm_cert.specs.Ends.{end_kind};
+ghost use Rattle.fm_cert.specs.Lines.{lines_text};
+ghost use Rattle.fm_cert.specs.Said.{IsQueryOver};
+ghost use Rattle.fm_decide.specs.Answers.{answers, are_answered, query_answer, report_bytes};
+ghost use Rattle.fm_decide.specs.Given.{IsAnswerOver, IsGivenOver, answer_report, given_reports};
 ghost use Rattle.fm_problem.specs.Problems.{is_built};
-ghost use Rattle.fm_problem.specs.Sound.{IsIdealOf, IsPolynomialOf, IsProblem, IsQueryOf};
-ghost use Rattle.fm_writer.specs.Writing.{QueryReport, ideal_words, query_lines};
-ghost use Rattle.fm_writer.specs.Blocks.{block_lines};
-ghost use Rattle.fm_writer.specs.Lines.{lines_text};
+ghost use Rattle.fm_problem.specs.Sound.{IsProblem, IsQueryOf};
+ghost use Rattle.fm_report.specs.Reports.{block_lines, query_lines};
+ghost use Rattle.fm_report.specs.Sheets.{is_answer as answers_query};
 
 use crate::Answers;
-use fm_poly::{Poly, Ring};
-use fm_principal::{ClassEnd, decide_class, outcome};
-use fm_problem::{Ideal, Problem, Query};
-use fm_writer::blocks::{ClassQuery, push_class};
-use fm_writer::heads::{push_head, push_ideal};
+use crate::classes::answer_class;
+use crate::ended::Answer;
+use crate::members::answer_member;
+use fm_cert::{End, Line, push_head, push_lines, push_query};
+use fm_problem::{Problem, Query};
 use std::alloc::{AllocError, Global};
 
 /// The report on the queries of a problem, with this number of units for each plan.
@@ -23,31 +25,10 @@ pub fn answer(alloc: Global, problem: &Problem, units: u32) -> Result<Answers, A
     ensures all { IfOk result (λ a. a.all ≡ are_answered (answers units problem.now problem.now.queries)) }
 {
     let mut report = Vec::new(alloc);
-    push_head(alloc, &mut report, problem.ring, problem.vars.as_slice())?;
-    push_ideals(alloc, problem, &mut report)?;
+    push_head(problem, &mut report)?;
     let all = push_queries(alloc, problem, units, &mut report)?;
-    report.extend_from_slice(b"end report\n")?;
+    Line::EndReport.push(problem, &mut report)?;
     Ok(Answers { all, report })
-}
-
-fn push_ideals(alloc: Global, problem: &Problem, out: &mut Vec<u8>) -> Result<(), AllocError>
-    requires { IsProblem problem.now }
-    ensures { OnOk result (out.new.items ≡ out.old.items ++ lines_text (map (ideal_words problem.now.vars) (map ideal_entry problem.now.ideals))) }
-{
-    let mut left = problem.ideals.as_slice();
-    'ideals: loop {
-        let Some((ideal, rest)) = left.split_first() else {
-            return Ok(());
-        };
-        push_ideal(
-            alloc,
-            problem.vars.as_slice(),
-            out,
-            ideal.name.as_str().as_bytes(),
-            ideal.generators.as_slice(),
-        )?;
-        left = rest;
-    }
 }
 
 // Whether each query is answered.
@@ -58,8 +39,9 @@ fn push_queries(
     out: &mut Vec<u8>,
 ) -> Result<bool, AllocError>
     requires { IsProblem problem.now }
-    ensures all { IfOk result (λ all. all ≡ all_answered (reports_of units problem.now problem.now.queries)) }
-    ensures text { OnOk result (out.new.items ≡ out.old.items ++ lines_text (query_lines problem.now.vars 1 (reports_of units problem.now problem.now.queries))) }
+    ensures all { IfOk result (λ all. all ≡ are_answered (answers units problem.now problem.now.queries)) }
+    ensures text { OnOk result (out.new.items
+        ≡ out.old.items ++ lines_text problem.now.vars (query_lines problem.now 1 (answers units problem.now problem.now.queries))) }
 {
     let mut all = true;
     let mut number = 0;
@@ -68,93 +50,83 @@ fn push_queries(
         let Some((query, rest)) = left.split_first() else {
             return Ok(all);
         };
-        number += 1;
-        let answered = push_query(alloc, problem, units, number, query, out)?;
-        all = all && answered;
         left = rest;
+        let Some(answer) = answer_query(alloc, problem, units, query)? else {
+            continue 'queries;
+        };
+        number += 1;
+        push_block(problem, number, query, &answer, out)?;
+        let answered = is_answer(&answer.end);
+        all = all && answered;
     }
 }
 
-// Whether the query is answered.
-fn push_query(
+// The answer to a query, with this number of units for its plan; None where there are no plans for queries of its kind.
+fn answer_query(
     alloc: Global,
     problem: &Problem,
     units: u32,
-    number: u64,
     query: &Query,
-    out: &mut Vec<u8>,
-) -> Result<bool, AllocError>
+) -> Result<Option<Answer>, AllocError>
     requires problem { IsProblem problem.now }
     requires query { IsQueryOf problem.now query.now }
     requires built { is_built problem.now.ideals query.now ≡ true }
-    ensures { IfOk result (λ answered. (r : QueryReport) × (query_reports units problem.now query.now ≡ r ∷ []) × (answered ≡ is_answered r.end)
-        × (out.new.items ≡ out.old.items ++ lines_text (block_lines problem.now.vars number r))) }
+    ensures value { IfOk result (λ given. given_reports problem.now query.now given ≡ query_answer units problem.now query.now) }
+    ensures over { IfOk result (IsGivenOver problem.now.ring.vars) }
 {
-    let Query::Class { i, ideal, e, z } = query else {
-        unreachable!()
-    };
-    let Some(ideal) = problem.ideals.get(*ideal as usize) else {
-        unreachable!()
-    };
-    push_class_of(
-        alloc,
-        problem.ring,
-        problem.vars.as_slice(),
-        units,
-        number,
-        ideal,
-        *i,
-        *e,
-        z.as_slice(),
-        out,
-    )
+    match query {
+        Query::Class { i, ideal, e, z } => {
+            answer_class(alloc, problem, units, *i, *ideal, *e, z.as_slice())
+        }
+        Query::Member { ideal, f } => answer_member(alloc, problem, units, *ideal, f),
+        Query::Zero { .. }
+        | Query::Root { .. }
+        | Query::Invert { .. }
+        | Query::Support { .. }
+        | Query::Map { .. }
+        | Query::Resolution { .. }
+        | Query::ExtOf { .. } => Ok(None),
+    }
 }
 
-// The block of the class (stage, vector) of an ideal, and whether it is answered.
-fn push_class_of(
-    alloc: Global,
-    ring: Ring,
-    names: &[String],
-    units: u32,
+// The lines of a query: its question, its end, what stands under an answer, and its last line.
+fn push_block<'x>(
+    problem: &'x Problem,
     number: u64,
-    ideal: &Ideal,
-    degree: u8,
-    stage: u8,
-    vector: &[Poly],
+    query: &'x Query,
+    answer: &'x Answer,
     out: &mut Vec<u8>,
-) -> Result<bool, AllocError>
-    requires names { length names.now ≡ ring.vars }
-    requires some { 1 ≤ ring.vars }
-    requires few { ring.vars ≤ 8 }
-    requires ideal { IsIdealOf ring ideal.now }
-    requires principal { length ideal.now.generators ≡ 1 }
-    requires vector { All (IsPolynomialOf ring) vector.now }
-    requires one_entry { length vector.now ≡ 1 }
-    ensures answered { IfOk result (λ answered. answered ≡ is_answered (class_report_of units ring ideal.now degree stage vector.now).end) }
-    ensures text { OnOk result (out.new.items ≡ out.old.items ++ lines_text (block_lines (map string_bytes names.now) number (class_report_of units ring ideal.now degree stage vector.now))) }
+) -> Result<(), AllocError>
+    requires problem { IsProblem problem.now }
+    requires query { IsQueryOver problem.now.ring.vars query.now }
+    requires over { IsAnswerOver problem.now.ring.vars answer.now }
+    ensures { OnOk result (out.new.items
+        ≡ out.old.items ++ lines_text problem.now.vars (block_lines problem.now number (answer_report problem.now query.now answer.now))) }
 {
-    let [f] = ideal.generators.as_slice() else {
-        unreachable!()
-    };
-    let end = decide_class(
-        alloc,
-        ring,
-        ideal.generators.as_slice(),
-        stage,
-        vector,
-        units,
-    )?;
-    let answered = match end {
-        ClassEnd::Answered { .. } => true,
-        ClassEnd::Stopped { .. } => false,
-    };
-    let outcome = outcome(alloc, f, stage, end)?;
-    let query = ClassQuery {
-        degree: u64::from(degree),
-        ideal: ideal.name.as_str().as_bytes(),
-        stage: u64::from(stage),
-        vector,
-    };
-    push_class(alloc, names, out, number, &query, &outcome)?;
-    Ok(answered)
+    push_query(problem, number, query, out)?;
+    answer.end.push(problem, out)?;
+    push_lines(problem, &answer.lines, out)?;
+    Line::Done { number }.push(problem, out)?;
+    Ok(())
+}
+
+fn is_answer(end: &End) -> bool
+    ensures { result ≡ answers_query (end_kind end.now) }
+{
+    match end {
+        End::Zero { .. }
+        | End::Class { .. }
+        | End::Invert { .. }
+        | End::Support { .. }
+        | End::Root { .. }
+        | End::Ranks { .. }
+        | End::ExtOf { .. }
+        | End::Map { .. }
+        | End::Member { .. } => true,
+        End::Budget { .. }
+        | End::Exponents { .. }
+        | End::WrongLength { .. }
+        | End::NotCocycle { .. }
+        | End::NotContained { .. } => false,
+    }
 }

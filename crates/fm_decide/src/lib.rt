@@ -2,9 +2,13 @@
 // A report costs what its plans cost, and a step for each byte of it.
 #![tactic(auto)]
 
-pub mod answering;
-pub mod answers;
+mod answering;
+mod answers;
+mod classes;
+mod ended;
+mod grids;
 pub mod laws;
+mod members;
 
 pub use answering::answer;
 pub use answers::Answers;

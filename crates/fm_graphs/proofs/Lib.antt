@@ -6,3 +6,7 @@ pub mod Joins
 pub mod Trims
 pub mod Preimages
 pub mod Spending
+pub mod WithinPolynomials
+pub mod WithinMatrices
+pub mod WithinGraphs
+pub mod Sizes

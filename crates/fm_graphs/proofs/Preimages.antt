@@ -24,7 +24,7 @@ use Rattle.fm_term.specs.declared.vterm.VTerm.{VTerm}
 use Rattle.fm_run.specs.Runs.{ready, ◌>>=◌}
 use Rattle.fm_graphs.specs.Listing.{VectorOf, terms_of}
 use Rattle.fm_graphs.specs.Graphs.{MatrixOf, Graph, width, graph_run, syzygies, lifted}
-use Rattle.fm_graphs.specs.Trims.{is_zero, trimmed, is_nonzero, Preimage, part, generating, kernel_run, preimage_run}
+use Rattle.fm_graphs.specs.Trims.{is_zero, trimmed, is_nonzero, Preimage, part, Generating, generating, kernel_run, preimage_run}
 use Rattle.fm_run.proofs.Ends.{Ends, same_value, bound}
 use Rattle.fm_graphs.proofs.Listing.{terms_mean}
 use Rattle.fm_graphs.proofs.Columns.{AllLong, shape_of, in_place, Solved, Spanned, span_own, span_within, solutions_shaped, solutions_product}
@@ -137,19 +137,6 @@ module _ (r : Ring) where
   zero_terms m v l e = sym (terms_mean r m v l) ∙ ap (vector_of r.prime r.vars m) (no_terms (terms_of r v) e) ∙ no_terms_mean m
 
   -- ---- generators of a part of the kernel
-  -- found stands over x in the kernel of the matrix of the graph, and generates the first a entries of the kernel
-  pub record Generating (a b : ℕ) (g : Graph r) (P : Preimage r) : Type 0 where
-    pub whole : P.whole ≡ g
-    pub found_shape : HasShape r.prime r.vars a (length P.found.columns) P.found
-    pub x_shape : HasShape r.prime r.vars b (length P.found.columns) P.x
-    pub graph : IsCompletedGraph r P.graph
-    pub graph_matrix : P.graph.matrix ≡ P.found
-    pub kernel : (j : ℕ) → j < length P.found.columns → InKernel r.prime r.vars g.matrix (get_or P.found.columns j [] ++ get_or P.x.columns j [])
-    pub w_shape : HasShape r.prime r.vars (length P.found.columns) (length (syzygies r g).columns) P.w
-    pub w_equation : matrix_product r.prime r.vars P.found P.w ≡ part r a (take a) (syzygies r g).columns
-    pub generates : (v : Vec) → InImage r.prime r.vars P.found v ↔ ((u : Vec) × (length u ≡ b) × (length v ≡ a) × InKernel r.prime r.vars g.matrix (v ++ u))
-    pub free : (xs ys : List Vec) (v : Vec) → P.found.columns ≡ xs ++ v ∷ ys → ¬ (Span a (xs ++ ys) v)
-
   module _ (a b : ℕ) (g : Graph r) (G : IsCompletedGraph r g) (wide : width r g ≡ a + b) where
     abbrev S : List Vec
     S = (syzygies r g).columns
@@ -224,7 +211,7 @@ module _ (r : Ring) where
       abbrev made : (W : MatrixOf r) (h : Graph r) → Preimage r
       made W h = record { whole = g; found = found; x = part r b (drop a) kept; w = W; graph = h }
 
-      generating_made : (W : MatrixOf r) (h : Graph r) (H : IsCompletedGraph r h) → h.matrix ≡ found → (units left : ℕ) → Ends (lifted r h (map (take a) S) units) W left → Generating a b g (made W h)
+      generating_made : (W : MatrixOf r) (h : Graph r) (H : IsCompletedGraph r h) → h.matrix ≡ found → (units left : ℕ) → Ends (lifted r h (map (take a) S) units) W left → Generating r a b g (made W h)
       generating_made W h H e units left ends =
           let long_s : AllLong r.prime r.vars a (map (take a) S) = (λ v i. let x = in_of_map (take a) S i in ap length (sym x.2) ∙ upper_long x.0 x.1) in
           let inside : (v : Vec) → In (map (take a) S) v → InImage r.prime r.vars found v = (λ v i. let x = in_of_map (take a) S i in subst (Span a (map (take a) kept)) x.2 (all_spanned x.0 x.1)) in
@@ -245,7 +232,7 @@ module _ (r : Ring) where
             free = free;
           }
 
-    pub generating_is : (units left : ℕ) (Q : Preimage r) → Ends (generating r a b g units) Q left → Generating a b g Q
+    pub generating_is : (units left : ℕ) (Q : Preimage r) → Ends (generating r a b g units) Q left → Generating r a b g Q
     unfolding generating
     generating_is units left Q ends =
         let after_graph = λ (kept : List Vec) (h : Graph r). lifted r h (map (take a) S) >>= λ w. ready (record { whole = g; found = part r a (take a) kept; x = part r b (drop a) kept; w = w; graph = h }) in
@@ -255,7 +242,7 @@ module _ (r : Ring) where
         let y = bound (graph_run r (part r a (take a) kept)) (after_graph kept) x.between left Q x.second in
         let H = graph_is r (part r a (take a) kept) (shape_of r.prime r.vars a (map (take a) kept) (long_upper kept T)) x.between y.between y.value y.first in
         let z = bound (lifted r y.value (map (take a) S)) (λ w. ready (record { whole = g; found = part r a (take a) kept; x = part r b (drop a) kept; w = w; graph = y.value })) y.between left Q y.second in
-        subst (Generating a b g) (same_value (made kept T z.value y.value) Q z.between left z.second) (generating_made kept T z.value y.value H.0 H.1 y.between z.between z.first)
+        subst (Generating r a b g) (same_value (made kept T z.value y.value) Q z.between left z.second) (generating_made kept T z.value y.value H.0 H.1 y.between z.between z.first)
 
   -- ---- kernels and preimages
   pub own_shape : (k c : ℕ) (B : MatrixOf r) → HasShape r.prime r.vars k c B → HasShape r.prime r.vars B.rows (length B.columns) B
@@ -293,7 +280,7 @@ module _ (r : Ring) where
   pub record IsKernel (A : MatrixOf r) (Q : Preimage r) : Type 0 where
     pub whole : IsCompletedGraph r Q.whole
     pub matrix : Q.whole.matrix ≡ A
-    pub generating : Generating (length A.columns) 0 Q.whole Q
+    pub generating : Generating r (length A.columns) 0 Q.whole Q
     pub generates : GeneratesKernel r.prime r.vars Q.found A
 
   pub kernel_is : (A : MatrixOf r) → HasShape r.prime r.vars A.rows (length A.columns) A → (units left : ℕ) (Q : Preimage r) → Ends (kernel_run r A units) Q left → IsKernel A Q
@@ -306,7 +293,7 @@ module _ (r : Ring) where
       record {
         whole = subst (IsCompletedGraph r) (sym D.whole) g.0;
         matrix = ap (λ (h : Graph r). h.matrix) D.whole ∙ g.1;
-        generating = subst (λ h. Generating (length A.columns) 0 h Q) (sym D.whole) D;
+        generating = subst (λ h. Generating r (length A.columns) 0 h Q) (sym D.whole) D;
         generates = subst (GeneratesKernel r.prime r.vars Q.found) g.1 (kernel_from b.value g.0 b.between left Q (subst (λ a. Ends (generating r a 0 b.value b.between) Q left) (sym wide) b.second));
       }
     where
@@ -316,7 +303,7 @@ module _ (r : Ring) where
   pub record IsPreimage (A B : MatrixOf r) (Q : Preimage r) : Type 0 where
     pub whole : IsCompletedGraph r Q.whole
     pub matrix : Q.whole.matrix ≡ matrix_beside r.prime r.vars A B
-    pub generating : Generating (length A.columns) (length B.columns) Q.whole Q
+    pub generating : Generating r (length A.columns) (length B.columns) Q.whole Q
     pub generates : GeneratesPreimage r.prime r.vars Q.found A B
 
   beside_shape : (k a b : ℕ) (A B : MatrixOf r) → HasShape r.prime r.vars k a A → HasShape r.prime r.vars k b B → HasShape r.prime r.vars k (a + b) (matrix_beside r.prime r.vars A B)
@@ -337,7 +324,7 @@ module _ (r : Ring) where
       record {
         whole = subst (IsCompletedGraph r) (sym D.whole) g.0;
         matrix = ap (λ (h : Graph r). h.matrix) D.whole ∙ g.1;
-        generating = subst (λ h. Generating (length A.columns) (length B.columns) h Q) (sym D.whole) D;
+        generating = subst (λ h. Generating r (length A.columns) (length B.columns) h Q) (sym D.whole) D;
         generates = λ w. (
           λ h. let y = (joins w).0 h in (D.generates w).1 (y.1.0, y.1.1, y.0, subst (λ M. InKernel r.prime r.vars M (w ++ y.1.0)) (sym g.1) y.1.2),
           λ i. let y = (D.generates w).0 i in (joins w).1 (y.2, (y.0, y.1, subst (λ M. InKernel r.prime r.vars M (w ++ y.0)) g.1 y.3)),

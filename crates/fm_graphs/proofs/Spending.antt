@@ -35,11 +35,11 @@ module _ (r : Ring) where
   lifted_spends g vs = then_spends (each (λ v. lift_run r g v >>= λ x. ready (solution r g x)) vs) (λ ws. ready (record { rows = width r g; columns = ws }))
       (each_spends (λ v. lift_run r g v >>= λ x. ready (solution r g x)) (λ v. then_spends (lift_run r g v) (λ x. ready (solution r g x)) (lift_spends g v) (λ x. ready_spends (solution r g x))) vs) (λ ws units. omega arith)
 
-  spanned_spends : (vs : List (VectorOf r)) (v : VectorOf r) → Spends (spanned r vs v)
+  pub spanned_spends : (vs : List (VectorOf r)) (v : VectorOf r) → Spends (spanned r vs v)
   spanned_spends vs v = then_spends (completed r (map (terms_of r) vs)) (λ c. (λ units. divided r c.members units (terms_of r v)) >>= λ x. ready (is_zero x.rest)) (completed_spends r (map (terms_of r) vs))
       (λ c. then_spends (λ units. divided r c.members units (terms_of r v)) (λ x. ready (is_zero x.rest)) (divided_run_spends r c.members (terms_of r v)) (λ x. ready_spends (is_zero x.rest)))
 
-  trim_spends : {X : Type 0} (column : X → VectorOf r) (former later : List X) → Spends (trimmed_after r column former later)
+  pub trim_spends : {X : Type 0} (column : X → VectorOf r) (former later : List X) → Spends (trimmed_after r column former later)
   trim_spends column former [] = λ units. omega arith
   trim_spends column former (x ∷ later) =
       then_spends (trimmed_after r column (former ++ x ∷ []) later) (λ kept. spanned r (map column (former ++ kept)) (column x) >>= λ yes. ready (if yes then kept else x ∷ kept)) (trim_spends column (former ++ x ∷ []) later)

@@ -2,3 +2,5 @@ pub mod Listing
 pub mod Bounds
 pub mod Graphs
 pub mod Trims
+pub mod Within
+pub mod Sizes

@@ -1,14 +1,15 @@
 -- Columns that generate: trimmed lists of columns, kernels and preimages.
-use Rattle.std.specs.Prelude.{ℕ, not, if◌then◌else◌, Bool, true, false, List, [], ◌∷◌, ◌++◌, map, length, take, drop}
+use Rattle.std.specs.Prelude.{ℕ, ◌≡◌, ◌<◌, ◌↔◌, get_or, not, if◌then◌else◌, Bool, true, false, List, [], ◌∷◌, ◌++◌, map, length, take, drop}
 use Rattle.std.specs.List.{filter}
-use Rattle.fm_algebra.specs.PolynomialMatrices.{matrix_beside}
+use Rattle.fm_algebra.specs.PolynomialMatrices.{HasShape, InImage, InKernel, matrix_beside, matrix_product}
+use Rattle.fm_groebner.specs.Bases.{generators}
 use Rattle.fm_poly.specs.declared.ring.Ring.{Ring}
 use Rattle.fm_term.specs.declared.vterm.VTerm.{VTerm}
 use Rattle.fm_complete.specs.Reductions.{divided}
 use Rattle.fm_run.specs.Runs.{Work, ready, ◌>>=◌}
 use Rattle.fm_complete.specs.Completions.{completed}
 use Rattle.fm_graphs.specs.Listing.{VectorOf, terms_of}
-use Rattle.fm_graphs.specs.Graphs.{MatrixOf, Graph, graph_run, syzygies, lifted}
+use Rattle.fm_graphs.specs.Graphs.{MatrixOf, Graph, IsCompletedGraph, graph_run, syzygies, lifted}
 
 abbrev pub is_zero : List VTerm → Bool
 is_zero [] = true
@@ -60,3 +61,19 @@ module _ (r : Ring) where
   -- PRE(A, B)
   unfoldable pub preimage_run : MatrixOf r → MatrixOf r → Work (Preimage r)
   preimage_run A B = graph_run r (matrix_beside r.prime r.vars A B) >>= generating (length A.columns) (length B.columns)
+
+  -- found stands over x in the kernel of the matrix of the graph, and generates the first a entries of the kernel; no column is in the span of
+  -- the others
+  pub record Generating (a b : ℕ) (g : Graph r) (P : Preimage r) : Type 0 where
+    pub whole : P.whole ≡ g
+    pub found_shape : HasShape r.prime r.vars a (length P.found.columns) P.found
+    pub x_shape : HasShape r.prime r.vars b (length P.found.columns) P.x
+    pub graph : IsCompletedGraph r P.graph
+    pub graph_matrix : P.graph.matrix ≡ P.found
+    pub kernel : (j : ℕ) → j < length P.found.columns → InKernel r.prime r.vars g.matrix (get_or P.found.columns j [] ++ get_or P.x.columns j [])
+    pub w_shape : HasShape r.prime r.vars (length P.found.columns) (length (syzygies r g).columns) P.w
+    pub w_equation : matrix_product r.prime r.vars P.found P.w ≡ part a (take a) (syzygies r g).columns
+    pub generates : (v : VectorOf r) → InImage r.prime r.vars P.found v
+        ↔ ((u : VectorOf r) × (length u ≡ b) × (length v ≡ a) × InKernel r.prime r.vars g.matrix (v ++ u))
+    pub free : (xs ys : List (VectorOf r)) (v : VectorOf r) → P.found.columns ≡ xs ++ v ∷ ys
+        → ¬ (InImage r.prime r.vars (generators r.prime r.vars a (xs ++ ys)) v)

@@ -18,7 +18,7 @@ use Rattle.fm_mat.specs.Bounds.{product_fits, twist_fits}
 use Rattle.fm_algebra.proofs.Places.{at_place}
 
 -- ---- tests of a list
-all_pass : (test : List ℕ → Bool) (ks : List (List ℕ)) → ((a : List ℕ) → Among a ks → test a ≡ true) → list_all test ks ≡ true
+pub all_pass : (test : List ℕ → Bool) (ks : List (List ℕ)) → ((a : List ℕ) → Among a ks → test a ≡ true) → list_all test ks ≡ true
 all_pass test [] h = refl
 all_pass test (k ∷ ks) h = ap (λ b. b && list_all test ks) (h k (inl refl)) ∙ all_pass test ks (λ a i. h a (inr i))
 

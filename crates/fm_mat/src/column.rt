@@ -35,11 +35,18 @@ impl Column {
         &self.entries
     }
 
+    /// The column with copies of these entries.
+    pub fn copy_of(alloc: Global, entries: &[Poly]) -> Result<Column, AllocError>
+        ensures { IfOk result (λ c. c ≡ entries.now) }
+    {
+        let mut copies = Vec::with_capacity(alloc, entries.len())?;
+        push_entries(alloc, entries, &mut copies)?;
+        Ok(Column { entries: copies })
+    }
+
     pub fn copy(&self, alloc: Global) -> Result<Column, AllocError>
         ensures { IfOk result (λ c. c ≡ self.now) }
     {
-        let mut entries = Vec::with_capacity(alloc, self.entries.len())?;
-        push_entries(alloc, &self.entries, &mut entries)?;
-        Ok(Column { entries })
+        Column::copy_of(alloc, &self.entries)
     }
 }

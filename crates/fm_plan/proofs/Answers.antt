@@ -6,7 +6,7 @@ use Rattle.fm_algebra.specs.PolynomialMatrices.{HasShape, InImage, matrix_unit, 
 use Rattle.fm_limit.specs.ResolvedIdeal.{row, InIdeal}
 use Rattle.fm_limit.specs.Facts.{IsEverything, unit_column, diagonal_blocks, IsAnnihilatorRow}
 use Rattle.fm_limit.proofs.VerdictLaws.{entries_verdict}
-use Rattle.fm_limit.specs.Verdicts.{Holds, root}
+use Rattle.fm_limit.specs.Verdicts.{RestsOn, Holds, root}
 use Rattle.fm_limit.proofs.MatrixWords.{row_fits, shape_rows, shape_columns}
 use Rattle.fm_limit.proofs.VerdictLaws.{zero_verdict, root_verdict, ext_verdict, member_verdict, resolution_verdict}
 use Rattle.fm_algebra.specs.Matrix.{column_matrix, entry}
@@ -41,7 +41,7 @@ module _ (r : Ring) where
   n = r.vars
 
   abbrev pub Right : Found r → Type 0
-  Right x = Holds p n (verdict r x)
+  Right x = RestsOn p n (verdict r x) × Holds p n (verdict r x)
 
   pub zero_right : (i : ℕ) (fs : Ideal r) (units left : ℕ) (x : Found r) → Ends (plan r (ask_zero i fs) units) x left → Right x
   unfolding plan verdict
@@ -54,7 +54,7 @@ module _ (r : Ring) where
       let says = whole_is r b.chain.stable B.stable a.between d.between d.value (task_ends Alone names.Whole 0 (whole_run r (stable_graph r b)) a.between d.between d.value d.first) in
       let decides = says_decides r b.chain.stable B.stable (matrix_unit p n b.chain.stable.matrix.rows) d.value says in
       subst Right (same_value (found_zero i fs b d.value) x d.between left d.second)
-      (zero_verdict p n B.facts B.first (is_yes r d.value) (subst (λ K. IsTrue (is_yes r d.value) ↔ IsEverything p n K) B.stable_matrix decides))
+      (B.facts.resolved, zero_verdict p n B.facts B.first (is_yes r d.value) (subst (λ K. IsTrue (is_yes r d.value) ↔ IsEverything p n K) B.stable_matrix decides))
 
   pub root_right : (i : ℕ) (fs : Ideal r) (units left : ℕ) (x : Found r) → Ends (plan r (ask_root i fs) units) x left → Right x
   unfolding plan verdict
@@ -63,14 +63,14 @@ module _ (r : Ring) where
       let b = a.value in
       let B = base_is r i fs Alone units a.between b a.first in
       subst Right (same_value (found_root i fs b) x a.between left a.second)
-      (subst (λ K. Holds p n (root i (resolved r fs b.ext) b.ext.cocycles.found K b.ext.u (length b.ext.cocycles.found.columns) (stable_of r b))) (sym B.stable_matrix) (root_verdict p n B.facts B.first))
+      (B.facts.resolved, subst (λ K. Holds p n (root i (resolved r fs b.ext) b.ext.cocycles.found K b.ext.u (length b.ext.cocycles.found.columns) (stable_of r b))) (sym B.stable_matrix) (root_verdict p n B.facts B.first))
 
   pub resolution_right : (i : ℕ) (fs : Ideal r) (units left : ℕ) (x : Found r) → Ends (plan r (ask_resolution i fs) units) x left → Right x
   unfolding plan verdict
   resolution_right i fs units left x ends =
       let a = bound (resolution_plan r Alone i fs) (λ y. ready (found_resolution i fs y)) units left x ends in
       let X = resolution_is r Alone i fs units a.between a.value a.first in
-      subst Right (same_value (found_resolution i fs a.value) x a.between left a.second) (resolution_verdict p n fs i (differentials_of r a.value) X.resolution)
+      subst Right (same_value (found_resolution i fs a.value) x a.between left a.second) (X.resolution, resolution_verdict p n fs i (differentials_of r a.value) X.resolution)
 
   pub ext_right : (i : ℕ) (fs : Ideal r) (units left : ℕ) (x : Found r) → Ends (plan r (ask_ext i fs) units) x left → Right x
   unfolding plan verdict
@@ -81,7 +81,7 @@ module _ (r : Ring) where
       let d = bound (ext_plan r Alone i a.value) (λ z. ready (found_ext i fs z)) a.between left x a.second in
       let E = ext_is r Alone i fs a.value X a.between d.between d.value d.first in
       subst Right (same_value (found_ext i fs d.value) x d.between left d.second)
-      (ext_verdict p n i (resolved r fs d.value) d.value.cocycles.found d.value.relations.found d.value.u E.presents)
+      (E.is_resolved, ext_verdict p n i (resolved r fs d.value) d.value.cocycles.found d.value.relations.found d.value.u E.presents)
 
   pub member_right : (fs : Ideal r) (f : Polynomial p n) (units left : ℕ) (x : Found r) → Ends (plan r (ask_member fs f) units) x left → Right x
   unfolding plan verdict InIdeal HasShape matrix_column column_matrix
@@ -97,11 +97,13 @@ module _ (r : Ring) where
       let says = inside_is r g G.0 column 1 (subst (λ k. HasShape p n k 1 column) one (column_shaped (polynomials p n) 1 (f ∷ []) refl)) a.between d.between d.value
       (task_ends Alone names.Member 0 (inside_run r column g) a.between d.between d.value d.first) in
       let decides = says_decides r g G.0 column d.value says in
-      subst Right (same_value (found_member fs f g d.value) x d.between left d.second)
-      (member_verdict p n fs f (is_yes r d.value) (
-        (λ t. subst (λ A. InImage p n A (f ∷ [])) G.1 (in_columns r g.matrix column (decides.0 t) (f ∷ []) here)),
-        (λ h. decides.1 (columns_in r g.matrix column (λ v k. subst (InImage p n g.matrix) (only v k) (subst (λ A. InImage p n A (f ∷ [])) (sym G.1) h)))),
-      ))
+      subst Right (same_value (found_member fs f g d.value) x d.between left d.second) (
+        tt,
+        member_verdict p n fs f (is_yes r d.value) (
+          (λ t. subst (λ A. InImage p n A (f ∷ [])) G.1 (in_columns r g.matrix column (decides.0 t) (f ∷ []) here)),
+          (λ h. decides.1 (columns_in r g.matrix column (λ v k. subst (InImage p n g.matrix) (only v k) (subst (λ A. InImage p n A (f ∷ [])) (sym G.1) h)))),
+        ),
+      )
     where
       only : (v : VectorOf r) → In ((f ∷ []) ∷ []) v → f ∷ [] ≡ v
       only v i = elim (in_cases (f ∷ []) [] v i) [ inl e ↦ sym e | inr j ↦ elim j [ ] ]
@@ -132,4 +134,4 @@ module _ (r : Ring) where
         generates = J.generates;
       } in
       subst Right (same_value (found_support i fs b d.value) x d.between left d.second)
-      (entries_verdict p n B.facts d.value.found (subst (λ M. IsAnnihilatorRow p n M d.value.found) B.stable_matrix row_is))
+      (B.facts.resolved, entries_verdict p n B.facts d.value.found (subst (λ M. IsAnnihilatorRow p n M d.value.found) B.stable_matrix row_is))

@@ -12,7 +12,7 @@ use Rattle.fm_algebra.proofs.Tables.{length-apply}
 use Rattle.fm_limit.specs.ResolvedIdeal.{ResolvedIdeal, matrix_at, columns_of, rank}
 use Rattle.fm_limit.specs.Facts.{AreCoordinates, DegreeFacts}
 use Rattle.fm_limit.specs.Classes.{IsClass}
-use Rattle.fm_limit.specs.Verdicts.{Holds, zero_class}
+use Rattle.fm_limit.specs.Verdicts.{RestsOn, Holds, zero_class}
 use Rattle.fm_limit.proofs.StageWords.{class_words}
 use Rattle.fm_limit.proofs.Waist.{coordinates_fact}
 use Rattle.fm_limit.proofs.VerdictLaws.{class_no_verdict, class_yes_verdict}
@@ -187,7 +187,7 @@ module _ (r : Ring) where
         one : (l : ℕ) → suc l ≡ 1 + l
         one l = omega arith
 
-  pub class_right : (i : ℕ) (fs : Ideal r) (e : ℕ) (z : VectorOf r) (units left : ℕ) (x : Found r) → Ends (plan r (ask_class i fs e z) units) x left → Holds p n (verdict r x)
+  pub class_right : (i : ℕ) (fs : Ideal r) (e : ℕ) (z : VectorOf r) (units left : ℕ) (x : Found r) → Ends (plan r (ask_class i fs e z) units) x left → RestsOn p n (verdict r x) × Holds p n (verdict r x)
   unfolding plan verdict
   class_right i fs e z units left x ends =
       let dat = λ (y : Resolution r). matrix_at p n (differentials_of r y) i in
@@ -221,8 +221,8 @@ module _ (r : Ring) where
       let k = bound (stages r e w 0 None (chain_graphs r b)) (λ s. ready (found_class i fs b e z w s)) j.between left x j.second in
       let S = all_stages i fs b B.0 e w coords.0 in
       let says = stages_say (kernels r b.ext b.chain) e w 0 None (chain_graphs r b) S.0 (λ k h. absurd (omega (arith, h))) j.between k.between k.value k.first in
-      subst (λ x. Holds p n (verdict r x)) (same_value (found_class i fs b e z w k.value) x k.between left k.second)
-      (killed_right i fs b B.0 e z w class coords k.value (subst (λ q. KilledSays (kernels r b.ext b.chain) e w q k.value) (zero_plus (length (chain_graphs r b)) ∙ S.1) says))
+      subst (λ x. RestsOn p n (verdict r x) × Holds p n (verdict r x)) (same_value (found_class i fs b e z w k.value) x k.between left k.second)
+      ((B.0).facts.resolved, killed_right i fs b B.0 e z w class coords k.value (subst (λ q. KilledSays (kernels r b.ext b.chain) e w q k.value) (zero_plus (length (chain_graphs r b)) ∙ S.1) says))
     where
       zero_plus : (q : ℕ) → 0 + q ≡ q
       zero_plus q = omega arith

@@ -10,7 +10,7 @@ use Rattle.fm_algebra.specs.Polynomials.{Polynomial, polynomial_power}
 use Rattle.fm_algebra.specs.PolynomialMatrices.{HasShape, InImage, GeneratesPreimage, matrix_scalar, matrix_unit}
 use Rattle.fm_limit.specs.ResolvedIdeal.{matrix_at}
 use Rattle.fm_limit.specs.Facts.{ColumnsInImage, IsEverything, IsColons}
-use Rattle.fm_limit.specs.Verdicts.{Holds, inverting}
+use Rattle.fm_limit.specs.Verdicts.{RestsOn, Holds, inverting}
 use Rattle.fm_limit.proofs.ColonFacts.{colon_fact}
 use Rattle.fm_limit.proofs.VerdictLaws.{inverting_no_verdict, inverting_yes_verdict}
 use Rattle.fm_limit.proofs.MatrixWords.{scalar_fits, shape_rows, shape_columns}
@@ -207,7 +207,8 @@ module _ (r : Ring) where
         (inverting_yes_verdict r.prime r.vars B.facts f k (subst (λ A. ColumnsInImage r.prime r.vars A (matrix_scalar r.prime r.vars (polynomial_power r.prime r.vars k f) A.rows)) B.stable_matrix says.0)
         (λ j q l. says.1 j q (subst (λ A. ColumnsInImage r.prime r.vars A (matrix_scalar r.prime r.vars (polynomial_power r.prime r.vars j f) A.rows)) (sym B.stable_matrix) l)))
 
-  pub invert_right : (i : ℕ) (fs : Ideal r) (f : Polynomial r.prime r.vars) (units left : ℕ) (x : Found r) → Ends (plan r (ask_invert i fs f) units) x left → Holds r.prime r.vars (verdict r x)
+  pub invert_right : (i : ℕ) (fs : Ideal r) (f : Polynomial r.prime r.vars) (units left : ℕ) (x : Found r) → Ends (plan r (ask_invert i fs f) units) x left
+      → RestsOn r.prime r.vars (verdict r x) × Holds r.prime r.vars (verdict r x)
   unfolding plan verdict
   invert_right i fs f units left x ends =
       let ending = λ (b : BaseOf r) (c : Coloned r). inverted_of r f (stable_graph r b) c >>= λ s. ready (found_invert i fs b f s) in
@@ -223,4 +224,5 @@ module _ (r : Ring) where
       let d = bound (coloned r f (stable_graph r b) c.value) (ending b) c.between left x c.second in
       let C = coloned_is r K B.stable.shape f b.chain.stable B.stable refl c.value decides c.between d.between d.value d.first in
       let e = bound (inverted_of r f (stable_graph r b) d.value) (λ s. ready (found_invert i fs b f s)) d.between left x d.second in
-      subst (λ x. Holds r.prime r.vars (verdict r x)) (same_value (found_invert i fs b f e.value) x e.between left e.second) (inverted_right i fs b B f d.value C d.between e.between e.value e.first)
+      subst (λ x. RestsOn r.prime r.vars (verdict r x) × Holds r.prime r.vars (verdict r x)) (same_value (found_invert i fs b f e.value) x e.between left e.second)
+      (B.facts.resolved, inverted_right i fs b B f d.value C d.between e.between e.value e.first)

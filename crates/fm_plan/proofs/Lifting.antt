@@ -103,7 +103,7 @@ module _ (r : Ring) (fs : Ideal r) (i : ℕ) (ds : List (MatrixOf r)) (R : IsRes
   GraphsFrom j [] = Unit {0}
   GraphsFrom j (g ∷ gs) = IsCompletedGraph r g × (g.matrix ≡ matrix_at p n ds j) × (j < i) × GraphsFrom (suc j) gs
 
-  lifting_is : (side : Side) (j k : ℕ) (ts : List (MatrixOf r)) (gs : List (Graph r)) → GraphsFrom j gs → IsFrobeniusLiftOf p n j ds ts → (theta : MatrixOf r) → matrix_at p n ts j ≡ theta
+  pub lifting_is : (side : Side) (j k : ℕ) (ts : List (MatrixOf r)) (gs : List (Graph r)) → GraphsFrom j gs → IsFrobeniusLiftOf p n j ds ts → (theta : MatrixOf r) → matrix_at p n ts j ≡ theta
       → (units left : ℕ) (later : List (MatrixOf r)) → Ends (lifting r side k theta gs units) later left → IsFrobeniusLiftOf p n (j + length gs) ds (ts ++ later)
   lifting_is side j k ts [] G f theta e units left later ends =
       subst₂ (λ x y. IsFrobeniusLiftOf p n x ds y) (plain j) (sym (append_nil ts) ∙ ap (λ y. ts ++ y) (same_value [] later units left ends)) f

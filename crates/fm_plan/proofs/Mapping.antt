@@ -4,7 +4,7 @@ use Rattle.fm_gfp.specs.declared.prime.Prime.{Prime}
 use Rattle.fm_algebra.specs.PolynomialMatrices.{HasShape, GeneratesPreimage, matrix_unit}
 use Rattle.fm_limit.specs.ResolvedIdeal.{ResolvedIdeal, matrix_at, row}
 use Rattle.fm_limit.specs.Facts.{ColumnsInImage, MapFacts}
-use Rattle.fm_limit.specs.Verdicts.{Holds, HoldsOfOnto, induced_map}
+use Rattle.fm_limit.specs.Verdicts.{RestsOn, Holds, HoldsOfOnto, induced_map}
 use Rattle.fm_limit.proofs.VerdictLaws.{map_verdict, onto_no_verdict, onto_yes_verdict}
 use Rattle.fm_limit.proofs.MatrixWords.{shape_rows, shape_columns}
 use Rattle.fm_poly.specs.declared.ring.Ring.{Ring}
@@ -119,7 +119,7 @@ module _ (r : Ring) (i : ℕ) (fs gs : Ideal r) (b c : BaseOf r) (B : Based r i 
         (subst (λ A. (is_yes r null ≡ true) ↔ ColumnsInImage p n A phi) C.stable_matrix zero)
         (subst (λ A. (is_yes r d.value ≡ true) ↔ ColumnsInImage p n A x.found) B.stable_matrix lies) o)
 
-    compared_right : (units left : ℕ) (x : Found r) → Ends (compared r b c phi (λ null one s. found_map i fs gs b c ls phi null one.0 one.1 s) units) x left → Holds p n (verdict r x)
+    compared_right : (units left : ℕ) (x : Found r) → Ends (compared r b c phi (λ null one s. found_map i fs gs b c ls phi null one.0 one.1 s) units) x left → RestsOn p n (verdict r x) × Holds p n (verdict r x)
     unfolding compared verdict
     compared_right units left x ends =
         let ending = λ (null : Inside r) (one : Preimage r × Inside r). onto_plan r c.ext.relations.found phi c.ext.u >>= λ s. ready (found_map i fs gs b c ls phi null one.0 one.1 s) in
@@ -129,11 +129,13 @@ module _ (r : Ring) (i : ℕ) (fs gs : Ideal r) (b c : BaseOf r) (B : Based r i 
         let ob = bound (task Alone names.One 0 one_work) (ending nb.value) nb.between left x nb.second in
         let s = bound (onto_plan r c.ext.relations.found phi c.ext.u) (λ s. ready (found_map i fs gs b c ls phi nb.value (ob.value).0 (ob.value).1 s)) ob.between left x ob.second in
         let says = onto_is r c.ext.relations.found phi c.ext.u gT C.facts.ext.morphism_fits relations_shape phi_shape ob.between s.between s.value s.first in
-        subst (λ x. Holds p n (verdict r x)) (same_value (found_map i fs gs b c ls phi nb.value (ob.value).0 (ob.value).1 s.value) x s.between left s.second)
-        (map_holds nb.value (ob.value).0 (ob.value).1 s.value units nb.between nb.between ob.between (task_ends Alone names.Null 0 null_work units nb.between nb.value nb.first)
-        (task_ends Alone names.One 0 one_work nb.between ob.between ob.value ob.first) (onto_right s.value says))
+        subst (λ x. RestsOn p n (verdict r x) × Holds p n (verdict r x)) (same_value (found_map i fs gs b c ls phi nb.value (ob.value).0 (ob.value).1 s.value) x s.between left s.second) (
+          (B.facts.resolved, C.facts.resolved, F.identity),
+          map_holds nb.value (ob.value).0 (ob.value).1 s.value units nb.between nb.between ob.between (task_ends Alone names.Null 0 null_work units nb.between nb.value nb.first)
+              (task_ends Alone names.One 0 one_work nb.between ob.between ob.value ob.first) (onto_right s.value says),
+        )
 
-  mapped_right : (units left : ℕ) (x : Found r) → Ends (mapped r i fs gs b c units) x left → Holds p n (verdict r x)
+  mapped_right : (units left : ℕ) (x : Found r) → Ends (mapped r i fs gs b c units) x left → RestsOn p n (verdict r x) × Holds p n (verdict r x)
   unfolding mapped
   mapped_right units left x ends =
       let unit = matrix_unit p n 1 in
@@ -144,7 +146,7 @@ module _ (r : Ring) (i : ℕ) (fs gs : Ideal r) (b c : BaseOf r) (B : Based r i 
       let F = map_facts lb.value units lb.between lb.between pb.between pb.value lb.first (task_ends Alone names.Phi 0 (work lb.value) lb.between pb.between pb.value pb.first) in
       compared_right (unit ∷ lb.value) pb.value F pb.between left x pb.second
 
-pub map_right : (r : Ring) (i : ℕ) (fs gs : Ideal r) (units left : ℕ) (x : Found r) → Ends (plan r (ask_map i fs gs) units) x left → Holds r.prime r.vars (verdict r x)
+pub map_right : (r : Ring) (i : ℕ) (fs gs : Ideal r) (units left : ℕ) (x : Found r) → Ends (plan r (ask_map i fs gs) units) x left → RestsOn r.prime r.vars (verdict r x) × Holds r.prime r.vars (verdict r x)
 unfolding plan
 map_right r i fs gs units left x ends =
     let work = contained_work r fs gs in

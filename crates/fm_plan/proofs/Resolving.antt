@@ -6,11 +6,11 @@ use Rattle.fm_limit.proofs.MatrixWords.{row_fits, shape_rows}
 use Rattle.fm_poly.specs.declared.ring.Ring.{Ring}
 use Rattle.fm_run.specs.Runs.{ready, ◌>>=◌}
 use Rattle.fm_graphs.specs.Graphs.{MatrixOf, Graph, width, graph_run}
-use Rattle.fm_graphs.specs.Trims.{Preimage, generating}
+use Rattle.fm_graphs.specs.Trims.{Preimage, Generating, generating}
 use Rattle.fm_run.proofs.Ends.{Ends, same_value, bound}
 use Rattle.fm_graphs.specs.Graphs.{IsCompletedGraph}
 use Rattle.fm_graphs.proofs.Graphs.{graph_is}
-use Rattle.fm_graphs.proofs.Preimages.{Generating, generating_is, kernel_from, own_shape}
+use Rattle.fm_graphs.proofs.Preimages.{generating_is, kernel_from, own_shape}
 use Rattle.fm_run.specs.declared.task.Side.{Side}
 use Rattle.fm_run.specs.declared.task.Name.TheVariants.{Resolve}
 use Rattle.fm_plan.specs.Tasks.{task}

@@ -1,5 +1,5 @@
 -- A turn of the chain that isn't the last has spent a unit.
-use Rattle.std.proofs.Common.{ℕ, ◌<◌, ◌≤◌, ◌≡◌, suc, length, refl, ap, subst, arith}
+use Rattle.std.proofs.Common.{ℕ, ◌<◌, ◌≡◌, suc, length, refl, ap, subst, arith}
 use Rattle.fm_run.specs.Runs.{Ended}
 use Rattle.fm_poly.specs.declared.ring.Ring.{Ring}
 use Rattle.fm_run.specs.Runs.{ready, ◌>>=◌}
@@ -8,7 +8,7 @@ use Rattle.fm_graphs.specs.Graphs.{MatrixOf, Outside, Inside, all_inside, first_
 use Rattle.fm_graphs.specs.Bounds.{twisted_matrix}
 use Rattle.fm_graphs.specs.Trims.{Preimage, preimage_run}
 use Rattle.fm_run.proofs.Ends.{Ends, same_value, bound}
-use Rattle.fm_run.specs.Runs.{Spends}
+use Rattle.fm_run.proofs.Counting.{left_of}
 use Rattle.fm_graphs.proofs.Spending.{twist_spends, preimage_spends, outside_spends}
 use Rattle.fm_run.specs.declared.task.Side.{Side}
 use Rattle.fm_run.specs.declared.task.Name.TheVariants.{Chain as ChainTask}
@@ -20,9 +20,6 @@ module _ (r : Ring) where
   goes_on : (c : Links r) (x : Preimage r) (y : Inside r) (c' : Links r) → linked r c x y ≡ again c' → (o : Outside) × (y ≡ first_outside o)
   goes_on c x (all_inside ws) c' e = cc
   goes_on c x (first_outside o) c' e = (o, refl)
-
-  left_of : {A : Type 0} (run : ℕ → Ended A) (units left : ℕ) (x : A) → Spends run → Ends (run units) x left → left ≤ units
-  left_of {A} run units left x s e = let h = s units in let k : (run units).left ≡ left = ap (λ (d : Ended A). d.left) e in omega (arith, h, k)
 
   pub chain_spends : (side : Side) (u : MatrixOf r) (c c' : Links r) (units left : ℕ) → Ends (chain_turn r side u c units) (again c') left → left < units
   unfolding chain_work inside_run

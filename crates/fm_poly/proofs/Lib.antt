@@ -1,8 +1,3 @@
-pub mod Cutting
-pub mod Decimals
-pub mod PrintedFactors
-pub mod PrintedPolys
-pub mod PrintingSteps
 pub mod OrderedTerms
 pub mod MergeSteps
 pub mod CollectSteps

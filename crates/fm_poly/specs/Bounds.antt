@@ -1,10 +1,15 @@
 -- Which operations pass the bound on exponents: it is told of the terms of the values, and terms that would cancel count.
-use Rattle.std.specs.Prelude.{ℕ, ◌^◌, ◌<◌, ◌≡◌, List, true, false}
+use Rattle.std.specs.Prelude.{ℕ, ◌^◌, ◌<◌, ◌≡◌, List, [], ◌∷◌, true, false}
 use Rattle.fm_tuple.specs.Tuple.{tuple_sum, tuple_multiple}
 use Rattle.fm_gfp.specs.Primes.{prime_value}
 use Rattle.fm_gfp.specs.declared.prime.Prime.{Prime}
 use Rattle.fm_mono.specs.Bounded.{is_bounded}
 use Rattle.fm_algebra.specs.Polynomials.{Polynomial, coefficient, polynomial_power}
+
+-- each exponent of these terms is within the bound
+abbrev pub AreWithinBound : List (List ℕ × ℕ) → Type 0
+AreWithinBound [] = Unit {0}
+AreWithinBound (t ∷ ts) = (is_bounded t.0 ≡ true) × AreWithinBound ts
 
 module _ (p : Prime) (n : ℕ) where
   -- each exponent of f is within the bound

@@ -16,15 +16,11 @@ pub(crate) mod merging;
 pub(crate) mod multiplying;
 pub mod poly;
 pub mod poly_error;
-pub(crate) mod printing;
 pub mod ring;
 pub(crate) mod scaling;
 pub mod term;
 #[cfg(test)]
 mod tests;
-pub mod text_laws;
-#[cfg(test)]
-mod text_tests;
 pub(crate) mod twisting;
 
 pub use poly::Poly;

@@ -1,5 +1,5 @@
 // Polynomials.
-ghost use Rattle.std.specs.Prelude.{All, IfOk, IsErrOf, OnOk, [], length, map, string_bytes, ◌++◌, ◌<◌, ◌≡◌, ◌≤◌};
+ghost use Rattle.std.specs.Prelude.{All, IfOk, IsErrOf, OnOk, [], ◌<◌, ◌≡◌, ◌≤◌};
 ghost use Rattle.fm_gfp.specs.Primes.{prime_value};
 ghost use Rattle.fm_algebra.specs.Polynomials.{
   frobenius_twist,
@@ -16,14 +16,11 @@ ghost use Rattle.fm_poly.specs.Bounds.{
   TwistFits,
   TwistPasses,
 };
-ghost use Rattle.fm_poly.specs.Polys.{IsCanonical, IsTermOf, meaning, pairs};
-ghost use Rattle.fm_poly.specs.Printing.{Extends};
-ghost use Rattle.fm_poly.specs.Texts.{poly_text};
+ghost use Rattle.fm_poly.specs.Polys.{IsCanonical, IsTermOf, meaning};
 
 use crate::collecting::collect;
 use crate::merging::merge;
 use crate::multiplying::{power_of, times};
-use crate::printing::push_terms;
 use crate::scaling::multiple_of;
 use crate::twisting::twist_of;
 use crate::{PolyError, Ring, Term};
@@ -178,14 +175,5 @@ impl Poly {
             ring: self.ring,
             terms,
         })
-    }
-
-    /// Appends the printed form.
-    pub fn text(&self, names: &[String], out: &mut Vec<u8>) -> Result<(), AllocError>
-        requires { length names.now ≡ self.now.ring.vars }
-        ensures ok { OnOk result (out.new.items ≡ out.old.items ++ poly_text (map string_bytes names.now) (pairs self.now.terms)) }
-        ensures prefix { Extends out.old.items out.new.items }
-    {
-        push_terms(names, self.terms(), out)
     }
 }

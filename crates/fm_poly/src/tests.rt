@@ -9,9 +9,9 @@ use std::alloc::{AllocError, Global};
 use std::test::Fail;
 
 // Terms in x and y: both exponents and the coefficient.
-pub(crate) type Listed = ([u32; 2], u64);
+type Listed = ([u32; 2], u64);
 
-pub(crate) const PLANE: Ring = Ring {
+const PLANE: Ring = Ring {
     prime: Prime::Five,
     vars: 2,
     order: Order::Grevlex,
@@ -39,7 +39,7 @@ fn listed(alloc: Global, list: &[Listed]) -> Result<Vec<Term>, AllocError>
     Ok(terms)
 }
 
-pub(crate) fn poly(alloc: Global, list: &[Listed]) -> Result<Poly, AllocError>
+fn poly(alloc: Global, list: &[Listed]) -> Result<Poly, AllocError>
     ensures { IfOk result (λ f. f.ring ≡ PLANE) }
 {
     let terms = listed(alloc, list)?;

@@ -1,3 +1,4 @@
+pub mod Twists
 pub mod Ending
 pub mod Rightness
 pub mod Columns

@@ -1,5 +1,6 @@
--- A plan that ends with an answer computes the query rightly
-use Rattle.std.proofs.Common.{ℕ, suc, ◌-◌, ◌<◌, ◌^◌, ◌≡◌, ◌≢◌, ◌↔◌, if◌then◌else◌, Bool, true, false, List, [], ◌∷◌, ◌++◌, Result, Ok, Err, refl, sym, ap, ◌∙◌, subst, arith, append-nil}
+-- A plan that ends computes the query rightly.
+use Rattle.std.proofs.Common.{ℕ, suc, ◌-◌, ◌<◌, ◌^◌, ◌≡◌, ◌≢◌, ◌↔◌, Ok, List, [], ◌∷◌, ◌++◌, refl, sym, ap, ◌∙◌, subst, subst₂, arith, append-nil}
+use Rattle.std.specs.Prelude.{is_none}
 use Rattle.fm_gfp.specs.Primes.{prime_value}
 use Rattle.fm_algebra.specs.Polynomials.{polynomial_product, polynomial_power, frobenius_twist}
 use Rattle.fm_algebra.specs.Power.{power}
@@ -8,99 +9,29 @@ use Rattle.fm_algebra.proofs.TwistWords.{power_is_twist}
 use Rattle.fm_poly.specs.declared.ring.Ring.{Ring}
 use Rattle.fm_poly.specs.declared.term.Term.{Term}
 use Rattle.fm_poly.specs.Polys.{PolyValue, pairs, meaning, IsCanonical}
-use Rattle.fm_poly.specs.Texts.{AreWithinBound}
+use Rattle.fm_poly.specs.Bounds.{AreWithinBound}
 use Rattle.fm_poly.proofs.KeptTerms.{zero_list}
 use Rattle.fm_term.specs.declared.vterm.VTerm.{VTerm}
+use Rattle.fm_term.specs.Falling.{head_of}
+use Rattle.fm_term.specs.Multiples.{twisted}
 use Rattle.fm_vec.specs.Vectors.{VectorValue, IsVector}
 use Rattle.fm_vec.specs.Components.{component_terms, component_meaning, placed}
-use Rattle.fm_term.specs.Multiples.{twisted}
-use Rattle.fm_vec.specs.Multiples.{twist_fits}
 use Rattle.fm_vec.proofs.Meaning.{Value, plus, times, part, part_none, plus_nothing, twisted_part}
 use Rattle.fm_vec.proofs.PlacedTerms as columns
-use Rattle.fm_vec.proofs.Proper.{twisted_vector}
-use Rattle.fm_run.specs.Runs.{Halt, Exponent, Ended, ended_with}
-use Rattle.fm_complete.specs.Divisions.{DivisionValue, quotient_terms, division_of, division_run}
+use Rattle.fm_vec.proofs.Proper as proper
+use Rattle.fm_run.specs.Runs.{ready, ◌>>=◌}
+use Rattle.fm_run.specs.Tasks.{task_run}
+use Rattle.fm_run.proofs.Ends.{Ends, Bound, bound, same_value}
+use Rattle.fm_complete.specs.Divisions.{DivisionValue, quotient_terms}
 use Rattle.fm_complete.specs.Reductions.{Reduced, divided}
 use Rattle.fm_complete.proofs.DivisionLaw.{division_says}
 use Rattle.fm_complete.proofs.Principal.{one_member, principal}
 use Rattle.fm_complete.proofs.Quotients.{quotients_fall}
 use Rattle.fm_complete.proofs.BoundedQuotients.{twist_bounded, quotients_bounded}
 use Rattle.fm_principal.specs.PrincipalQueries.{DividesExactly, IsRight}
-use Rattle.fm_principal.specs.Plans as plans
-use Rattle.fm_principal.specs.Plans.{PlanEnd, answered, stopped, column_vector, after_twist, is_zero_list, lift_run, stage_run, plan_end, after_lift, after_stage}
-
--- ---- the runs of a plan that ends with an answer
-twist_went_on : {A : Type 0} → (q : ℕ) → (v : VectorValue) → (units : ℕ) → (go_on : VectorValue → Ended A) → (x : A) → (after_twist q v units go_on).end ≡ Ok x
-    → (go_on (plans.twisted_vector q v)).end ≡ Ok x
-twist_went_on {A} q v units go_on x e = go (twist_fits q v.terms) e
-  where
-    go : (b : Bool) → ◌≡◌ {A = Result A Halt} (if b then go_on (plans.twisted_vector q v) else record { end = Err Exponent; left = units }).end (Ok x)
-        → (go_on (plans.twisted_vector q v)).end ≡ Ok x
-    go true e = e
-    go false e = cc
-
-twist_fitted : {A : Type 0} → (q : ℕ) → (v : VectorValue) → (units : ℕ) → (go_on : VectorValue → Ended A) → (x : A) → (after_twist q v units go_on).end ≡ Ok x
-    → twist_fits q v.terms ≡ true
-twist_fitted {A} q v units go_on x e = go (twist_fits q v.terms) e
-  where
-    go : (b : Bool) → ◌≡◌ {A = Result A Halt} (if b then go_on (plans.twisted_vector q v) else record { end = Err Exponent; left = units }).end (Ok x) → b ≡ true
-    go true e = refl
-    go false e = cc
-
--- the head reductions of a division that ends
-reductions_of : (r : Ring) (rows count : ℕ) (run : Ended Reduced) (d : DivisionValue) → ◌≡◌ {A = Result DivisionValue Halt} (ended_with (division_of r rows count) run).end (Ok d)
-    → (x : Reduced) × (run ≡ record { end = Ok x; left = run.left }) × (division_of r rows count x ≡ d)
-reductions_of r rows count run d e = go run.end refl e
-  where
-    value : {a b : DivisionValue} → ◌≡◌ {A = Result DivisionValue Halt} (Ok a) (Ok b) → a ≡ b
-    value e = cc
-
-    go : (s : Result Reduced Halt) → run.end ≡ s → ◌≡◌ {A = Result DivisionValue Halt} (ended_with (division_of r rows count) (record { end = s; left = run.left })).end (Ok d)
-        → (x : Reduced) × (run ≡ record { end = Ok x; left = run.left }) × (division_of r rows count x ≡ d)
-    go (Ok x) is e = (x, (λ i. record { end = is i; left = run.left }), value e)
-    go (Err s) is e = cc
-
--- an answer has both divisions
-record AreRun (f z : VectorValue) (e units : ℕ) (theta : List PolyValue) (b : Bool) : Type 0 where
-  lifted : DivisionValue
-  lift_is : (lift_run f units).end ≡ Ok lifted
-  tested : DivisionValue
-  test_is : (stage_run f e z (lift_run f units).left).end ≡ Ok tested
-  theta_is : lifted.quotients ≡ theta
-  answer_is : is_zero_list tested.rest.terms ≡ b
-
-are_run : (f z : VectorValue) (e units : ℕ) (theta : List PolyValue) (b : Bool) → plan_end f e z units ≡ answered theta b → AreRun f z e units theta b
-unfolding plan_end
-are_run f z e units theta b ends = go (lift_run f units).end refl ends
-  where
-    left : ℕ
-    left = (lift_run f units).left
-
-    thetas : {xs ys : List PolyValue} {a b : Bool} → answered xs a ≡ answered ys b → xs ≡ ys
-    thetas e = cc
-
-    answers : {xs ys : List PolyValue} {a b : Bool} → answered xs a ≡ answered ys b → a ≡ b
-    answers e = cc
-
-    tested : (d : DivisionValue) → (lift_run f units).end ≡ Ok d → (s : Result DivisionValue Halt) → (stage_run f e z (lift_run f units).left).end ≡ s
-        → after_stage d.quotients s ≡ answered theta b → AreRun f z e units theta b
-    tested d lifts (Ok t) tests ends = record { lifted = d; lift_is = lifts; tested = t; test_is = tests; theta_is = thetas ends; answer_is = answers ends }
-    tested d lifts (Err s) tests ends = cc
-
-    go : (s : Result DivisionValue Halt) → (lift_run f units).end ≡ s → after_lift f e z s (lift_run f units).left ≡ answered theta b → AreRun f z e units theta b
-    go (Ok d) lifts ends = tested d lifts (stage_run f e z (lift_run f units).left).end refl ends
-    go (Err s) lifts ends = cc
-
--- by whether the list is empty
-by_rest : (C : Bool → Type 0) (rest : List VTerm) (b : Bool) → is_zero_list rest ≡ b → (rest ≡ [] → C true) → ((rest ≡ [] → ⊥) → C false) → C b
-by_rest C rest b e whole some = subst C e (go rest whole some)
-  where
-    go : (rest : List VTerm) → (rest ≡ [] → C true) → ((rest ≡ [] → ⊥) → C false) → C (is_zero_list rest)
-    go [] whole some = whole refl
-    go (t ∷ ts) whole some = some filled
-      where
-        filled : t ∷ ts ≡ [] → ⊥
-        filled e = cc
+use Rattle.fm_principal.specs.Plans.{Decided, column_vector, lift_task, stage_task, lift_run, stage_run, class_plan}
+use Rattle.fm_run.proofs.Parts.{named_ends}
+use Rattle.fm_principal.proofs.Twists.{Divided, reductions}
 
 module _ (r : Ring) where
   -- ---- one polynomial as a vector
@@ -161,7 +92,7 @@ module _ (r : Ring) where
   some_single (t ∷ ts) some e = cc
 
   twist_vector : (e : ℕ) (ts : List Term) → IsCanonical r ts → IsVector r 1 (twisted (prime_value r.prime ^ e) (single ts))
-  twist_vector e ts c = twisted_vector r 1 (prime_value r.prime ^ e) (single ts) (q_positive r.prime r.vars e) (single_vector ts c)
+  twist_vector e ts c = proper.twisted_vector r 1 (prime_value r.prime ^ e) (single ts) (q_positive r.prime r.vars e) (single_vector ts c)
 
   twist_part : (e : ℕ) (ts : List Term) → part r 1 (twisted (prime_value r.prime ^ e) (single ts)) ≡ frobenius_twist r.prime r.vars e (meaning r ts)
   twist_part e ts = twisted_part r 1 e (single ts) ∙ ap (frobenius_twist r.prime r.vars e) (single_part ts)
@@ -176,122 +107,75 @@ module _ (r : Ring) where
             ∙ ap (times r (polynomial_power r.prime r.vars (q - 1) (meaning r ts))) (sym (single_part ts)),
       )
 
-  -- ---- the answer of a division
-  divides_so : (g v : List VTerm) (f z : Value r) → part r 1 g ≡ f → part r 1 v ≡ z → Divides g v → DividesExactly r.prime r.vars f z true
+  -- whether there is a rest tells whether g divides v
+  rest_tells : (g v : List VTerm) (rest : List VTerm) → (rest ≡ []) ↔ Divides g v → DividesExactly r.prime r.vars (part r 1 g) (part r 1 v) (is_none (head_of rest))
   unfolding Divides
-  divides_so g v f z fp zp d = (d.0, times_comm f d.0 ∙ ap (times r d.0) (sym fp) ∙ sym d.1 ∙ zp)
-
-  divides_not : (g v : List VTerm) (f z : Value r) → part r 1 g ≡ f → part r 1 v ≡ z → (Divides g v → ⊥) → DividesExactly r.prime r.vars f z false
-  unfolding Divides
-  divides_not g v f z fp zp h = λ w is. h (w, zp ∙ sym is ∙ times_comm f w ∙ ap (times r w) (sym fp))
-
-  rest_tells : (g v : List VTerm) (f z : Value r) → part r 1 g ≡ f → part r 1 v ≡ z → (rest : List VTerm) (b : Bool) → is_zero_list rest ≡ b → (rest ≡ []) ↔ Divides g v
-      → DividesExactly r.prime r.vars f z b
-  rest_tells g v f z fp zp rest b e h =
-      by_rest (DividesExactly r.prime r.vars f z) rest b e (λ none. divides_so g v f z fp zp (h.0 none)) (λ some. divides_not g v f z fp zp (λ d. some (h.1 d)))
+  rest_tells g v [] h = let d = h.0 refl in (d.0, times_comm (part r 1 g) d.0 ∙ sym d.1)
+  rest_tells g v (t ∷ ts) h = λ w is. filled (h.1 (w, sym is ∙ times_comm (part r 1 g) w))
+    where
+      filled : t ∷ ts ≡ [] → ⊥
+      filled e = cc
 
   -- ---- the plan
-  module _ (f z : PolyValue) (e units : ℕ) (theta : List PolyValue) (b : Bool) (ends : plan_end (column_vector r (f ∷ [])) e (column_vector r (z ∷ [])) units ≡ answered theta b) where
-    runs : AreRun (column_vector r (f ∷ [])) (column_vector r (z ∷ [])) e units theta b
-    runs = are_run (column_vector r (f ∷ [])) (column_vector r (z ∷ [])) e units theta b ends
+  module _ (f z : PolyValue) (e units left : ℕ) (d : Decided) (ends : Ends (class_plan (column_vector r (f ∷ [])) e (column_vector r (z ∷ [])) units) d left) where
+    abbrev F : VectorValue
+    F = column_vector r (f ∷ [])
 
-    left : ℕ
-    left = (lift_run (column_vector r (f ∷ [])) units).left
+    abbrev Z : VectorValue
+    Z = column_vector r (z ∷ [])
 
-    lift_divided : Ended Reduced
-    lift_divided = divided r (single f.terms ∷ []) units (twisted (prime_value r.prime ^ 1) (single f.terms))
+    abbrev answer : DivisionValue → DivisionValue → Decided
+    answer x y = record { theta = x.quotients; is_zero = is_none (head_of y.rest.terms) }
 
-    lift_reductions : (x : Reduced) × (lift_divided ≡ record { end = Ok x; left = lift_divided.left }) × (division_of r 1 1 x ≡ runs.lifted)
-    unfolding lift_divided
-    lift_reductions = reductions_of r 1 1 lift_divided runs.lifted
-        (twist_went_on (prime_value r.prime ^ 1) (column_vector r (f ∷ [])) units (λ w. division_run (column_vector r (f ∷ []) ∷ []) w units) runs.lifted runs.lift_is)
+    first : Bound (task_run lift_task (lift_run F)) (λ x. task_run stage_task (stage_run F e Z) >>= λ y. ready (answer x y)) units d left
+    unfolding class_plan
+    first = bound (task_run lift_task (lift_run F)) (λ x. task_run stage_task (stage_run F e Z) >>= λ y. ready (answer x y)) units left d ends
 
-    lift_steps : Reduced
-    lift_steps = lift_reductions.0
+    second : Bound (task_run stage_task (stage_run F e Z)) (λ y. ready (answer first.value y)) first.between d left
+    second = bound (task_run stage_task (stage_run F e Z)) (λ y. ready (answer first.value y)) first.between left d first.second
 
-    lift_ends : divided r (single f.terms ∷ []) units (twisted (prime_value r.prime ^ 1) (single f.terms)) ≡ record { end = Ok lift_steps; left = lift_divided.left }
-    unfolding lift_divided lift_steps
-    lift_ends = lift_reductions.1
+    lift : Divided 1 F (λ w. F ∷ []) (λ w. w) first.value
+    lift = reductions 1 F (λ w. F ∷ []) (λ w. w) units first.between first.value (named_ends _ (lift_run F) units first.between first.value first.first)
 
-    lift_terms : List Term
-    lift_terms = quotient_terms 1 lift_steps.steps
+    test : Divided e F (λ w. w ∷ []) (λ w. Z) second.value
+    test = reductions e F (λ w. w ∷ []) (λ w. Z) first.between second.between second.value (named_ends _ (stage_run F e Z) first.between second.between second.value second.first)
 
-    theta_entry : theta ≡ record { ring = r; terms = lift_terms } ∷ []
-    unfolding lift_terms lift_steps
-    theta_entry = sym runs.theta_is ∙ ap (λ (d : DivisionValue). d.quotients) (sym lift_reductions.2)
+    decided : answer first.value second.value ≡ d
+    decided = same_value _ d second.between left second.second
 
-    theta_bounded : AreWithinBound (pairs lift_terms)
-    unfolding lift_terms
-    theta_bounded =
-        quotients_bounded r (single f.terms ∷ []) units lift_divided.left (twisted (prime_value r.prime ^ 1) (single f.terms)) lift_steps
-        (twist_bounded (prime_value r.prime ^ 1) (single f.terms)
-        (twist_fitted (prime_value r.prime ^ 1) (column_vector r (f ∷ [])) units (λ w. division_run (column_vector r (f ∷ []) ∷ []) w units) runs.lifted runs.lift_is)) lift_ends 1
+    abbrev theta : List Term
+    theta = quotient_terms 1 lift.steps.steps
 
-    module _ (f_canonical : IsCanonical r f.terms) where
-      theta_canonical : IsCanonical r lift_terms
-      unfolding lift_terms
-      theta_canonical =
-          quotients_fall r 1 (single f.terms ∷ []) (single_vector f.terms f_canonical, tt) units lift_divided.left (twisted (prime_value r.prime ^ 1) (single f.terms)) lift_steps
-          (twist_vector 1 f.terms f_canonical) lift_ends 1
+    abbrev v : List VTerm
+    v = twisted (prime_value r.prime ^ 1) (single f.terms)
 
-      module _ (z_canonical : IsCanonical r z.terms) (some : f.terms ≢ []) where
-        lift_rest : lift_steps.rest ≡ []
-        lift_rest =
-            (rest_is units lift_divided.left (single f.terms) (twisted (prime_value r.prime ^ 1) (single f.terms)) lift_steps (some_single f.terms some) (single_vector f.terms f_canonical)
-            (twist_vector 1 f.terms f_canonical) lift_ends).1 (twist_divided 1 f.terms)
+    lift_is_right : IsCanonical r f.terms → (f.terms ≢ []) → times r (meaning r f.terms) (meaning r theta) ≡ frobenius_twist r.prime r.vars 1 (meaning r f.terms)
+    lift_is_right cf some =
+        let fv = single_vector f.terms cf in
+        let vv = twist_vector 1 f.terms cf in
+        times_comm (meaning r f.terms) (meaning r theta) ∙ ap (times r (meaning r theta)) (sym (single_part f.terms))
+        ∙ quotient_is lift.start lift.left (single f.terms) v lift.steps fv vv lift.ends
+        ((rest_is lift.start lift.left (single f.terms) v lift.steps (some_single f.terms some) fv vv lift.ends).1 (twist_divided 1 f.terms))
+        ∙ twist_part 1 f.terms
 
-        lift_is_right : times r (meaning r f.terms) (meaning r lift_terms) ≡ frobenius_twist r.prime r.vars 1 (meaning r f.terms)
-        unfolding lift_terms
-        lift_is_right =
-            times_comm (meaning r f.terms) (meaning r lift_terms) ∙ ap (times r (meaning r lift_terms)) (sym (single_part f.terms))
-            ∙ quotient_is units lift_divided.left (single f.terms) (twisted (prime_value r.prime ^ 1) (single f.terms)) lift_steps (single_vector f.terms f_canonical)
-            (twist_vector 1 f.terms f_canonical) lift_ends lift_rest
-            ∙ twist_part 1 f.terms
+    answer_is_right : IsCanonical r f.terms → IsCanonical r z.terms → (f.terms ≢ []) → DividesExactly r.prime r.vars (frobenius_twist r.prime r.vars e (meaning r f.terms)) (meaning r z.terms) d.is_zero
+    answer_is_right cf cz some =
+        let g = twisted (prime_value r.prime ^ e) (single f.terms) in
+        let told = rest_tells g (single z.terms) test.steps.rest (rest_is test.start test.left g (single z.terms) test.steps (some_twisted (prime_value r.prime ^ e) f.terms some)
+        (twist_vector e f.terms cf) (single_vector z.terms cz) test.ends) in
+        let b : is_none (head_of test.steps.rest) ≡ d.is_zero = ap (λ (x : DivisionValue). is_none (head_of x.rest.terms)) test.is ∙ ap (λ (x : Decided). x.is_zero) decided in
+        subst₂ (λ x y. DividesExactly r.prime r.vars x y d.is_zero) (twist_part e f.terms) (single_part z.terms) (subst (DividesExactly r.prime r.vars (part r 1 g) (part r 1 (single z.terms))) b told)
 
-        stage_divided : Ended Reduced
-        stage_divided = divided r (twisted (prime_value r.prime ^ e) (single f.terms) ∷ []) left (single z.terms)
-
-        stage_reductions : (x : Reduced) × (stage_divided ≡ record { end = Ok x; left = stage_divided.left }) × (division_of r 1 1 x ≡ runs.tested)
-        unfolding stage_divided left
-        stage_reductions = reductions_of r 1 1 stage_divided runs.tested
-            (twist_went_on (prime_value r.prime ^ e) (column_vector r (f ∷ [])) left (λ w. division_run (w ∷ []) (column_vector r (z ∷ [])) left) runs.tested runs.test_is)
-
-        answer_is_right : DividesExactly r.prime r.vars (frobenius_twist r.prime r.vars e (meaning r f.terms)) (meaning r z.terms) b
-        unfolding stage_divided
-        answer_is_right =
-            rest_tells (twisted (prime_value r.prime ^ e) (single f.terms)) (single z.terms) (frobenius_twist r.prime r.vars e (meaning r f.terms)) (meaning r z.terms) (twist_part e f.terms)
-            (single_part z.terms) stage_reductions.0.rest b (ap (λ (d : DivisionValue). is_zero_list d.rest.terms) stage_reductions.2 ∙ runs.answer_is)
-            (rest_is left stage_divided.left (twisted (prime_value r.prime ^ e) (single f.terms)) (single z.terms) stage_reductions.0 (some_twisted (prime_value r.prime ^ e) f.terms some)
-            (twist_vector e f.terms f_canonical) (single_vector z.terms z_canonical) stage_reductions.1)
-
-        is_right : IsRight r.prime r.vars (record { f = pairs f.terms; stage = e; z = pairs z.terms; theta = pairs lift_terms; divides = b })
-        unfolding meaning
-        is_right = record {
-          nonzero = λ none. some ((zero_list r f.terms f_canonical).1 none);
-          lift = lift_is_right;
-          answer = answer_is_right;
-        }
-
-pub theta_is_one : (r : Ring) (f z : PolyValue) (e units : ℕ) (theta : List PolyValue) (b : Bool) → IsCanonical r f.terms
-    → plan_end (column_vector r (f ∷ [])) e (column_vector r (z ∷ [])) units ≡ answered theta b
-    → (t : PolyValue) × (theta ≡ t ∷ []) × (t.ring ≡ r) × IsCanonical r t.terms
-theta_is_one r f z e units theta b cf ends =
-    (record { ring = r; terms = lift_terms r f z e units theta b ends }, theta_entry r f z e units theta b ends, refl, theta_canonical r f z e units theta b ends cf)
-
-same_terms : {x y : PolyValue} → ◌≡◌ {A = List PolyValue} (x ∷ []) (y ∷ []) → x.terms ≡ y.terms
-same_terms e = ap (λ (v : PolyValue). v.terms) (first e)
-  where
-    first : {x y : PolyValue} → ◌≡◌ {A = List PolyValue} (x ∷ []) (y ∷ []) → x ≡ y
-    first e = cc
-
-pub theta_is_bounded : (r : Ring) (f z t : PolyValue) (e units : ℕ) (b : Bool) → plan_end (column_vector r (f ∷ [])) e (column_vector r (z ∷ [])) units ≡ answered (t ∷ []) b
-    → AreWithinBound (pairs t.terms)
-theta_is_bounded r f z t e units b ends =
-    subst (λ ts. AreWithinBound (pairs ts)) (sym (same_terms (theta_entry r f z e units (t ∷ []) b ends))) (theta_bounded r f z e units (t ∷ []) b ends)
-
-pub plan_is_right : (r : Ring) (f z t : PolyValue) (e units : ℕ) (b : Bool) → IsCanonical r f.terms → IsCanonical r z.terms → (f.terms ≢ [])
-    → plan_end (column_vector r (f ∷ [])) e (column_vector r (z ∷ [])) units ≡ answered (t ∷ []) b
-    → IsRight r.prime r.vars (record { f = pairs f.terms; stage = e; z = pairs z.terms; theta = pairs t.terms; divides = b })
-plan_is_right r f z t e units b cf cz some ends =
-    subst (λ ts. IsRight r.prime r.vars (record { f = pairs f.terms; stage = e; z = pairs z.terms; theta = pairs ts; divides = b }))
-    (sym (same_terms (theta_entry r f z e units (t ∷ []) b ends))) (is_right r f z e units (t ∷ []) b ends cf cz some)
+    pub plan_is_right : (t : PolyValue) × (d.theta ≡ t ∷ []) × (t.ring ≡ r) × AreWithinBound (pairs t.terms) × (IsCanonical r f.terms → IsCanonical r t.terms × (IsCanonical r z.terms → (f.terms ≢ [])
+        → IsRight r.prime r.vars (record { f = pairs f.terms; stage = e; z = pairs z.terms; theta = pairs t.terms; divides = d.is_zero })))
+    unfolding meaning
+    plan_is_right = (
+      record { ring = r; terms = theta },
+      ap (λ (x : Decided). x.theta) (sym decided) ∙ ap (λ (x : DivisionValue). x.quotients) (sym lift.is),
+      refl,
+      quotients_bounded r (single f.terms ∷ []) lift.start lift.left v lift.steps (twist_bounded (prime_value r.prime ^ 1) (single f.terms) lift.fits) lift.ends 1,
+      λ cf. (
+        quotients_fall r 1 (single f.terms ∷ []) (single_vector f.terms cf, tt) lift.start lift.left v lift.steps (twist_vector 1 f.terms cf) lift.ends 1,
+        λ cz some. record { nonzero = λ none. some ((zero_list r f.terms cf).1 none); lift = lift_is_right cf some; answer = answer_is_right cf cz some },
+      ),
+    )

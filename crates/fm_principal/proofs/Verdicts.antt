@@ -1,5 +1,5 @@
 -- Verdicts on classes of principal ideals hold exactly if they are computed rightly.
-use Rattle.std.proofs.Common.{◌≡◌, ℕ, zero, ◌+◌, ◌≤◌, List, [], ◌∷◌, length, replicate, refl, sym, ap, ap₂, subst, ◌∙◌, arith, add-zero}
+use Rattle.std.proofs.Common.{◌≡◌, ℕ, zero, ◌+◌, ◌≤◌, [], ◌∷◌, replicate, refl, sym, ap, ap₂, subst, ◌∙◌, arith, add-zero}
 use Rattle.std.specs.Prelude.{Option, Some, None, Bool, true, false}
 use Rattle.fm_gfp.specs.declared.prime.Prime.{Prime}
 use Rattle.fm_algebra.specs.Matrix.{listed, table, scalar_matrix, unit_matrix}

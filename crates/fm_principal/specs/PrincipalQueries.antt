@@ -1,11 +1,11 @@
 -- Classes of degree 1 of principal ideals, as they are decided.
-use Rattle.std.specs.Prelude.{◌≡◌, ℕ, List, [], ◌∷◌, Option, Some, None, replicate, Bool, true, false}
+use Rattle.std.specs.Prelude.{◌≡◌, ℕ, [], ◌∷◌, Option, Some, None, replicate, Bool, true, false}
 use Rattle.fm_gfp.specs.declared.prime.Prime.{Prime}
 use Rattle.fm_algebra.specs.Polynomials.{Polynomial, polynomial_of, polynomial_zero, polynomial_product, frobenius_twist}
 use Rattle.fm_limit.specs.ResolvedIdeal.{ResolvedIdeal}
 use Rattle.fm_limit.specs.SmallIdeals.{one_entry, no_columns}
 use Rattle.fm_limit.specs.Verdicts.{Verdict, zero_class}
-use Rattle.fm_poly.specs.Texts.{Terms}
+use Rattle.fm_text.specs.Texts.{Terms}
 
 -- The class (stage, z) of the ideal of f: what is computed for it is theta, the lift of Frobenius, and whether f^[q] divides z, for
 -- q = p ^ stage.

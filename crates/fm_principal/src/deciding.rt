@@ -1,103 +1,107 @@
 // The plan of a class.
-ghost use Rattle.std.specs.Prelude.{IfOk, OnOk, [], ◌∷◌, ◌≡◌, ◌≢◌, ◌^◌, length, true, false};
-ghost use Rattle.fm_gfp.specs.Primes.{prime_value};
-ghost use Rattle.fm_vec.specs.Multiples.{twist_fits};
-ghost use Rattle.fm_vec.specs.Components.{AreOver};
+ghost use Rattle.std.specs.Prelude.{IfErr, IfOk, [], ◌∷◌, ◌≡◌, ◌≢◌, length, ℕ};
 ghost use Rattle.fm_complete.specs.Divisions.{division_value};
+ghost use Rattle.fm_principal.specs.Plans.{class_plan, column_vector, decided_value, lift_run, lift_task, stage_run, stage_task, twist_run, twisted_vector};
 ghost use Rattle.fm_run.specs.Runs.{Follows};
-ghost use Rattle.fm_principal.specs.Ends.{end_value};
-ghost use Rattle.fm_principal.specs.Plans as plans;
-ghost use Rattle.fm_principal.specs.Plans.{twisted_vector, column_vector, lift_run, plan_end, stage_run};
+ghost use Rattle.fm_run.specs.Tasks.{FollowsTasks};
+ghost use Rattle.fm_vec.specs.Components.{AreOver};
 
-use crate::{ClassEnd, Task};
+use crate::Decided;
 use fm_complete::{Division, divide};
 use fm_poly::{Poly, PolyError, Ring};
-use fm_run::{Stop, Work};
+use fm_run::{Name, Side, Stop, Stopped, Task, Work, in_task};
 use fm_vec::Vector;
-use std::alloc::{AllocError, Global};
+use std::alloc::Global;
+use std::slice;
 
 /// Decides the class (e, z) of the ideal that one nonzero polynomial generates: whether it is zero in the limit.
 ///
-/// `generator` and `vector` have one entry each.
+/// `generators` and `vector` have one entry each.
 pub fn decide_class(
     alloc: Global,
     ring: Ring,
-    generator: &[Poly],
+    generators: &[Poly],
     stage: u8,
     vector: &[Poly],
-    budget: u32,
-) -> Result<ClassEnd, AllocError>
-    requires generator { AreOver ring generator.now }
+    work: &mut Work,
+) -> Result<Decided, Stopped>
+    requires generators { AreOver ring generators.now }
     requires vector { AreOver ring vector.now }
-    requires nonzero { (column_vector ring generator.now).terms ≢ [] }
-    requires one { length generator.now ≡ 1 }
+    requires nonzero { (column_vector ring generators.now).terms ≢ [] }
+    requires one { length generators.now ≡ 1 }
     requires one_entry { length vector.now ≡ 1 }
-    ensures { IfOk result (λ end. end_value end ≡ plan_end (column_vector ring generator.now) stage (column_vector ring vector.now) budget) }
+    ensures { FollowsTasks decided_value result work.old work.new
+        (class_plan (column_vector ring generators.now) stage (column_vector ring vector.now) work.old) }
 {
-    let f = Vector::from_column(alloc, ring, generator)?;
-    let z = Vector::from_column(alloc, ring, vector)?;
-    let mut work = Work::new(budget);
-    let lift = match lift(alloc, &f, &mut work) {
-        Ok(division) => division.quotients,
-        Err(stop) => return stopped(Task::Lift, stop),
+    let lift = Task {
+        side: Side::Alone,
+        name: Name::Lift,
+        number: 1,
     };
-    match test(alloc, &f, stage, &z, &mut work) {
-        Ok(division) => Ok(ClassEnd::Answered {
-            lift,
-            is_zero: division.rest.head().is_none(),
-        }),
-        Err(stop) => stopped(Task::Stage, stop),
-    }
+    let test = Task {
+        side: Side::Alone,
+        name: Name::Stage,
+        number: 0,
+    };
+    let f = vector_of(alloc, lift, ring, generators)?;
+    let theta = in_task(lift, frobenius_lift(alloc, &f, work))?;
+    let z = vector_of(alloc, test, ring, vector)?;
+    let tested = in_task(test, stage_test(alloc, &f, stage, &z, work))?;
+    Ok(Decided {
+        lift: theta.quotients,
+        is_zero: tested.rest.head().is_none(),
+    })
 }
 
-// The end of a plan whose task stopped; want of memory ends none.
-fn stopped(task: Task, stop: Stop) -> Result<ClassEnd, AllocError>
-    ensures end { IfOk result (λ end. end_value end ≡ plans.stopped task stop) }
-    ensures memory { OnOk result (stop ≢ Stop.Memory) }
+// The column as a vector; want of memory is told of the task.
+fn vector_of(alloc: Global, task: Task, ring: Ring, column: &[Poly]) -> Result<Vector, Stopped>
+    requires over { AreOver ring column.now }
+    requires one { length column.now ≡ 1 }
+    ensures value { IfOk result (λ v. v ≡ column_vector ring column.now) }
+    ensures memory { IfErr result (λ s. s.stop ≡ Stop.Memory) }
 {
-    match stop {
-        Stop::Memory => Err(AllocError),
-        stop => Ok(ClassEnd::Stopped { task, stop }),
+    match Vector::from_column(alloc, ring, column) {
+        Ok(v) => Ok(v),
+        Err(_) => Err(Stopped {
+            task,
+            stop: Stop::Memory,
+        }),
     }
 }
 
 // `lift 1`
-fn lift(alloc: Global, f: &Vector, work: &mut Work) -> Result<Division, Stop>
+fn frobenius_lift(alloc: Global, f: &Vector, work: &mut Work) -> Result<Division, Stop>
     requires { f.now.terms ≢ [] }
     ensures { Follows division_value result work.old work.new (lift_run f.now work.old) }
 {
-    let twisted = match twist(alloc, f, 1) {
-        Ok(twisted) => twisted,
-        Err(stop) => return Err(stop),
-    };
-    let members = [f.copy(alloc)?];
-    divide(alloc, &members, &twisted, work)
+    let power = twist(alloc, f, 1)?;
+    divide(alloc, slice::from_ref(f), &power, work)
 }
 
 // `stage 0`
-fn test(alloc: Global, f: &Vector, stage: u8, z: &Vector, work: &mut Work) -> Result<Division, Stop>
+fn stage_test(
+    alloc: Global,
+    f: &Vector,
+    stage: u8,
+    z: &Vector,
+    work: &mut Work,
+) -> Result<Division, Stop>
     requires nonzero { f.now.terms ≢ [] }
     requires ring { f.now.ring ≡ z.now.ring }
     requires rows { f.now.rows ≡ z.now.rows }
     ensures { Follows division_value result work.old work.new (stage_run f.now stage z.now work.old) }
 {
-    let twisted = match twist(alloc, f, stage) {
-        Ok(twisted) => twisted,
-        Err(stop) => return Err(stop),
-    };
-    let members = [twisted];
-    divide(alloc, &members, z, work)
+    let power = twist(alloc, f, stage)?;
+    divide(alloc, slice::from_ref(&power), z, work)
 }
 
 // v^[q], where no exponent passes the bound.
 fn twist(alloc: Global, v: &Vector, e: u8) -> Result<Vector, Stop>
-    ensures value { IfOk result (λ w. w ≡ twisted_vector (prime_value v.now.ring.prime ^ e) v.now) }
-    ensures fits { OnOk result (twist_fits (prime_value v.now.ring.prime ^ e) v.now.terms ≡ true) }
-    ensures exponent { result ≡ Err Stop.Exponent → twist_fits (prime_value v.now.ring.prime ^ e) v.now.terms ≡ false }
-    ensures budget { result ≡ Err Stop.Budget → ⊥ }
+    ensures follows { (units : ℕ) → Follows (λ w. w) result units units (twist_run e v.now units) }
+    ensures value { IfOk result (λ w. w ≡ twisted_vector e v.now) }
 {
     match v.twist(alloc, e) {
-        Ok(twisted) => Ok(twisted),
+        Ok(power) => Ok(power),
         Err(PolyError::Exponent) => Err(Stop::Exponent),
         Err(PolyError::Memory) => Err(Stop::Memory),
     }

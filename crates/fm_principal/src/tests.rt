@@ -2,11 +2,11 @@
 ghost use Rattle.std.specs.Prelude.{All, IfOk, length, ◌≡◌};
 ghost use Rattle.fm_poly.specs.Polys.{IsTermOf};
 
-use crate::{ClassEnd, Task, decide_class};
+use crate::{Decided, decide_class};
 use fm_gfp::Prime;
 use fm_mono::{EXPONENT_BOUND, Mono, Order};
 use fm_poly::{Poly, Ring, Term};
-use fm_run::Stop;
+use fm_run::{Name, Stop, Stopped, Work};
 use std::alloc::{AllocError, Global};
 use std::test::Fail;
 
@@ -19,7 +19,7 @@ type List = &'static [Listed];
 #[derive(Clone, Copy)]
 enum End {
     Answered(List, bool),
-    Stopped(Task, Stop),
+    Stopped(Name, Stop),
 }
 
 // The stage and the entry of a class, a budget, and how the plan ends.
@@ -33,11 +33,11 @@ struct Classes {
     rows: &'static [Row],
 }
 
-const IN_LIFT: End = End::Stopped(Task::Lift, Stop::Budget);
+const IN_LIFT: End = End::Stopped(Name::Lift, Stop::Budget);
 
-const IN_STAGE: End = End::Stopped(Task::Stage, Stop::Budget);
+const IN_STAGE: End = End::Stopped(Name::Stage, Stop::Budget);
 
-const PAST_THE_BOUND: End = End::Stopped(Task::Stage, Stop::Exponent);
+const PAST_THE_BOUND: End = End::Stopped(Name::Stage, Stop::Exponent);
 
 // The square of xy, and x^4 - x^3y + x^2y^2 - xy^3 + y^4.
 const SQUARE: List = &[([2, 2], 1)];
@@ -139,7 +139,7 @@ const HIGH_POWER: Classes = Classes {
     prime: Prime::Three,
     order: Order::Grevlex,
     generator: &[([5_592_406, 0], 1)],
-    rows: &[(0, &[], 0, End::Stopped(Task::Lift, Stop::Exponent))],
+    rows: &[(0, &[], 0, End::Stopped(Name::Lift, Stop::Exponent))],
 };
 
 // The monomial with these exponents, none of which passes the bound.
@@ -174,13 +174,13 @@ fn poly(alloc: Global, ring: Ring, list: &[Listed]) -> Result<Poly, AllocError>
     Ok(f)
 }
 
-// The end of the plan; there is none where the generator is zero.
+// What the plan answers; there is no plan where the generator is zero.
 fn end_of(
     alloc: Global,
     ring: Ring,
     generator: List,
     row: &Row,
-) -> Result<Option<ClassEnd>, AllocError>
+) -> Result<Option<Result<Decided, Stopped>>, AllocError>
     requires { ring.vars ≡ 2 }
 {
     let (stage, entry, budget, _) = *row;
@@ -189,21 +189,27 @@ fn end_of(
         return Ok(None);
     }
     let z = poly(alloc, ring, entry)?;
-    let end = decide_class(alloc, ring, &[f], stage, &[z], budget)?;
-    Ok(Some(end))
+    let mut work = Work::new(budget);
+    Ok(Some(decide_class(alloc, ring, &[f], stage, &[z], &mut work)))
 }
 
-fn is_end(alloc: Global, ring: Ring, end: &ClassEnd, want: &End) -> Result<bool, AllocError>
+fn is_end(
+    alloc: Global,
+    ring: Ring,
+    end: &Result<Decided, Stopped>,
+    want: &End,
+) -> Result<bool, AllocError>
     requires { ring.vars ≡ 2 }
 {
     match (end, want) {
-        (ClassEnd::Answered { lift, is_zero }, End::Answered(list, zero)) => {
+        (Ok(decided), End::Answered(list, zero)) => {
             let terms = listed(alloc, ring, list)?;
-            Ok(is_zero == zero && lift.len() == 1 && lift[0].terms() == terms.as_slice())
+            let lift = &decided.lift;
+            Ok(decided.is_zero == *zero && lift.len() == 1 && lift[0].terms() == terms.as_slice())
         }
-        (ClassEnd::Stopped { task, stop }, End::Stopped(in_task, why)) => Ok(
-            task == in_task && stop == why,
-        ),
+        (Err(stopped), End::Stopped(name, stop)) => {
+            Ok(stopped.task.name == *name && stopped.stop == *stop)
+        }
         _ => Ok(false),
     }
 }

@@ -11,8 +11,8 @@ use Rattle.fm_problem.specs.declared.problem.Problem.{Problem}
 use Rattle.fm_problem.specs.Faults.{Fault}
 use Rattle.fm_problem.specs.Problems.{ring_of, order_in, with_order, at_line, plus_line, after_second, after_ring, from_lines, problem_of}
 use Rattle.fm_problem.specs.Statements.{statement_of}
-use Rattle.fm_problem.specs.Steps.{◌>>=◌, steps}
-use Rattle.fm_problem.proofs.FirstFaults.{no_fault}
+use Rattle.fm_words.specs.Steps.{◌>>=◌, steps}
+use Rattle.fm_words.proofs.FirstFaults.{no_fault}
 
 -- ---- a text that goes on after a mark
 onto_parts : (x : ℕ) (ps qs : List Bytes) → (q : Bytes) × (rest : List Bytes) × (ps ≡ q ∷ rest) → onto_first x (ps ++ qs) ≡ onto_first x ps ++ qs

@@ -1,12 +1,7 @@
-pub mod FactorCuts
-pub mod TermCuts
-pub mod TermSums
 pub mod AsciiNames
-pub mod FirstFaults
-pub mod WrittenExponents
 pub mod NamesRead
 pub mod NamedStatements
-pub mod SoundPolynomials
+pub mod LineFaults
 pub mod SoundNames
 pub mod SoundProblems
 pub mod OneReading

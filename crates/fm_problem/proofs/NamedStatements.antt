@@ -8,7 +8,7 @@ use Rattle.fm_words.specs.Words.{words, after_word, is_number, is_name, is_blank
 use Rattle.fm_problem.specs.declared.keyword.Question.{Question}
 use Rattle.fm_problem.specs.declared.keyword.Keyword.{Keyword}
 use Rattle.fm_problem.specs.declared.keyword.Keyword.TheVariants.{Ring, Order as OrderWord, Ideal, Module, Class, Invert, Map, Member}
-use Rattle.fm_problem.specs.Factors.{one_word, is_polynomial, are_polynomials}
+use Rattle.fm_text.specs.Factors.{one_word, is_polynomial, are_polynomials}
 use Rattle.fm_problem.specs.Statements.{Statement, RingLine, OrderLine, IdealLine, ModuleLine, ClassLine, InvertLine, MapLine, MemberLine, ring_line, order_of, order_line, named_ideal, ideal_line, module_line, are_entries, entries_of, class_parts, class_line, invert_line, map_line, member_line, keyword_of, after_keyword, by_words, statement_of}
 use Rattle.fm_problem.proofs.AsciiNames.{both}
 

@@ -3,24 +3,24 @@ use Rattle.std.proofs.Common.{◌≡◌, ◌+◌, ◌<◌, ◌≤◌, true, fals
 use Rattle.std.proofs.lemmas.Bool.{ltb-true}
 use Rattle.fm_words.specs.Parts.{Bytes}
 use Rattle.fm_problem.specs.declared.fault_kind.FaultKind.TheVariants.{Repeated, Limit}
-use Rattle.fm_problem.specs.declared.limits.TheConstants.{VARIABLES, NAME_BYTES}
+use Rattle.fm_problem.specs.Limits.{most_variables, longest_name}
 use Rattle.fm_problem.specs.Problems.{plus_name}
-use Rattle.fm_problem.specs.Steps.{steps, place}
+use Rattle.fm_words.specs.Steps.{steps, place}
 use Rattle.fm_problem.proofs.AsciiNames.{both}
-use Rattle.fm_problem.proofs.FirstFaults.{same_ok, first_read, passed, not_failed}
+use Rattle.fm_words.proofs.FirstFaults.{same_ok, first_read, passed, not_failed}
 
 -- a name that is added is new, there are fewer than 8 before it, and it is short
 pub name_added : (vs us : List Bytes) (w : Bytes) → plus_name vs w ≡ Ok us
-    → (is_some (place 0 w vs) ≡ false) × ((nat_lt (length vs) VARIABLES && nat_le (length w) NAME_BYTES) ≡ true) × (vs ++ w ∷ [] ≡ us)
+    → (is_some (place 0 w vs) ≡ false) × ((nat_lt (length vs) most_variables && nat_le (length w) longest_name) ≡ true) × (vs ++ w ∷ [] ≡ us)
 name_added vs us w e =
     let fresh = not_failed (is_some (place 0 w vs)) Repeated _ us e in
-    let short = passed (nat_lt (length vs) VARIABLES && nat_le (length w) NAME_BYTES) Limit (Ok (vs ++ w ∷ [])) us fresh.1 in
+    let short = passed (nat_lt (length vs) most_variables && nat_le (length w) longest_name) Limit (Ok (vs ++ w ∷ [])) us fresh.1 in
     (fresh.0, short.0, same_ok short.1)
 
 counted : (vs us : List Bytes) (w : Bytes) → plus_name vs w ≡ Ok us → (length us ≡ length vs + 1) × (length us ≤ 8)
 counted vs us w e =
     let added = name_added vs us w e in
-    let few = ltb-true (length vs) VARIABLES (both (nat_lt (length vs) VARIABLES) (nat_le (length w) NAME_BYTES) added.1).0 in
+    let few = ltb-true (length vs) most_variables (both (nat_lt (length vs) most_variables) (nat_le (length w) longest_name) added.1).0 in
     let long : length us ≡ length vs + 1 = sym (ap length added.2) ∙ length-append vs (w ∷ []) in
     (long, omega (arith, few, long))
 

@@ -1,6 +1,6 @@
 -- One reading or one fault.
 use Rattle.std.proofs.Common.{◌≡◌, ◌⊎◌, inl, inr, Result, Ok, Err, refl, sym, ◌∙◌}
-use Rattle.fm_problem.proofs.FirstFaults.{no_fault, same_ok}
+use Rattle.fm_words.proofs.FirstFaults.{no_fault, same_ok}
 
 pub read_or_fault : {A F : Type 0} (r : Result A F) → ((x : A) × (r ≡ Ok x)) ⊎ ((f : F) × (r ≡ Err f))
 read_or_fault (Ok x) = inl (x, refl)

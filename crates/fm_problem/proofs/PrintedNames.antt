@@ -2,9 +2,8 @@
 use Rattle.std.proofs.Common.{◌≡◌, ◌≢◌, suc, Bool, true, false, ◌==◌, if◌then◌else◌, List, [], ◌∷◌, All, refl, ◌∙◌, ap, arith}
 use Rattle.std.specs.List.{list_all}
 use Rattle.std.proofs.lemmas.Bool.{eqb-true}
-use Rattle.fm_poly.specs.Texts.{are_names, AreNames}
+use Rattle.fm_words.specs.Words.{are_names, AreNames, same_bytes}
 use Rattle.fm_words.specs.Parts.{Bytes}
-use Rattle.fm_words.specs.Words.{same_bytes}
 use Rattle.fm_problem.specs.declared.problem.Problem.{Problem}
 use Rattle.fm_problem.specs.Sound.{IsShortName, IsAbsent, AreApart, IsProblem}
 use Rattle.fm_problem.proofs.AsciiNames.{both}

@@ -12,7 +12,7 @@ use Rattle.fm_words.specs.Parts.{Bytes}
 use Rattle.fm_words.specs.Lines.{NumberedLine, lines_of, end_of}
 use Rattle.fm_problem.specs.declared.fault_kind.FaultKind.{FaultKind}
 use Rattle.fm_problem.specs.declared.fault_kind.FaultKind.TheVariants.{Syntax, Repeated, NotPrime, Limit, NotBuilt}
-use Rattle.fm_problem.specs.declared.limits.TheConstants.{NAME_BYTES, IDEALS, GENERATORS, QUERIES, WRITTEN_EXPONENT}
+use Rattle.fm_problem.specs.Limits.{longest_name, most_ideals, most_generators, most_queries, greatest_exponent}
 use Rattle.fm_problem.specs.declared.keyword.Question.{Question}
 use Rattle.fm_problem.specs.declared.keyword.Question.TheVariants.{Zero, Root, Support, Resolution, Ext}
 use Rattle.fm_problem.specs.declared.problem.Problem.{Problem}
@@ -20,15 +20,16 @@ use Rattle.fm_problem.specs.declared.ideal.Ideal.{Ideal}
 use Rattle.fm_problem.specs.declared.query.Query.{Query}
 use Rattle.fm_problem.specs.declared.query.Query as queries
 use Rattle.fm_problem.specs.Sound.{are_small, AreSmallTerms, AreSmall, AreSmallIdeals, IsSmallQuery, AreSmallQueries, HasSmallExponents}
-use Rattle.fm_problem.specs.Factors.{SignedText, terms_of}
-use Rattle.fm_problem.specs.Steps.{◌>>=◌, steps, or_fault, place}
-use Rattle.fm_problem.specs.SumOfTerms.{placed, inserted, sum_of_terms, polynomial_of_terms}
-use Rattle.fm_problem.specs.Polynomials.{Rules, unsigned_term, signed_coefficient, signed_term, plus_term, written_terms, polynomial_in}
+use Rattle.fm_text.specs.Factors.{SignedText, terms_of}
+use Rattle.fm_words.specs.Steps.{◌>>=◌, steps, or_fault, place}
+use Rattle.fm_text.specs.SumOfTerms.{placed, inserted, sum_of_terms, polynomial_of_terms}
+use Rattle.fm_text.specs.Polynomials.{Rules, unsigned_term, signed_coefficient, signed_term, plus_term, written_terms}
+use Rattle.fm_problem.specs.Problems.{polynomial_in, plus_name, bare, ring_of, order_in, with_order, rules_of, Generators, unless_empty, unless_zero, plus_generator, generators_in, ideal_names, plus_ideal, with_ideal, degree_in, ideal_in, stage_in, plus_entry, vector_in, module_query, asked, is_built, query_in, plus_query, with_query, with_line, at_line, plus_line, after_second, after_ring, from_lines, problem_of}
 use Rattle.fm_problem.specs.Statements.{Statement, RingLine, OrderLine, IdealLine, ModuleLine, ClassLine, InvertLine, MapLine, MemberLine, statement_of}
 use Rattle.fm_gfp.specs.Primes.{prime_of}
-use Rattle.fm_problem.specs.Problems.{plus_name, bare, ring_of, order_in, with_order, rules_of, Generators, unless_empty, unless_zero, plus_generator, generators_in, ideal_names, plus_ideal, with_ideal, degree_in, ideal_in, stage_in, plus_entry, vector_in, module_query, asked, is_built, query_in, plus_query, with_query, with_line, at_line, plus_line, after_second, after_ring, from_lines, problem_of}
-use Rattle.fm_problem.proofs.FirstFaults.{no_fault, same_ok, first_read, steps_keep, passed, not_failed}
-use Rattle.fm_problem.proofs.WrittenExponents.{unsigned_within}
+use Rattle.fm_words.proofs.FirstFaults.{no_fault, same_ok, first_read, steps_keep, passed, not_failed}
+use Rattle.fm_text.proofs.WrittenExponents.{unsigned_within}
+use Rattle.fm_problem.proofs.LineFaults.{spelled_on_line}
 
 -- ---- one more
 terms_more : (ts : List Term) (u : Term) → AreSmallTerms (ts) → are_small u.mono ≡ true → AreSmallTerms ((ts ++ u ∷ []))
@@ -71,11 +72,11 @@ sum_within r (t ∷ ts) w = by_test (t.coeff == 0) (sum_within r ts w.1)
     by_test false v = inserted_within r t (sum_of_terms r ts) w.0 v
 
 -- ---- written terms
-module _ (r : Rules) (low : r.bound ≤ WRITTEN_EXPONENT) where
+module _ (r : Rules) (low : r.bound ≤ greatest_exponent) where
   signed_within : (t : SignedText) (u : Term) → signed_term r t ≡ Ok u → are_small u.mono ≡ true
   signed_within t u h =
       let read = first_read (unsigned_term r t.text) (λ v. Ok (record { mono = v.mono; coeff = signed_coefficient r.ring.prime t.sign v.coeff })) u h in
-      subst (λ (v : Term). are_small v.mono ≡ true) (same_ok read.2) (unsigned_within WRITTEN_EXPONENT r low t.text read.0 read.1)
+      subst (λ (v : Term). are_small v.mono ≡ true) (same_ok read.2) (unsigned_within greatest_exponent r low t.text read.0 read.1)
 
   terms_within : (text : Bytes) (ts : List Term) → written_terms r text ≡ Ok ts → AreSmallTerms (ts)
   terms_within text ts h = steps_keep (plus_term r) (λ us. AreSmallTerms (us)) one_more [] (terms_of text) ts tt h
@@ -87,7 +88,7 @@ module _ (r : Rules) (low : r.bound ≤ WRITTEN_EXPONENT) where
 
   polynomial_within : (text : Bytes) (f : PolyValue) → polynomial_in r text ≡ Ok f → AreSmallTerms (f.terms)
   polynomial_within text f h =
-      let read = first_read (written_terms r text) (λ ts. Ok (polynomial_of_terms r.ring ts)) f h in
+      let read = first_read (written_terms r text) (λ ts. Ok (polynomial_of_terms r.ring ts)) f (spelled_on_line r text f h) in
       subst (λ (g : PolyValue). AreSmallTerms (g.terms)) (same_ok read.2) (sum_within r.ring read.0 (terms_within text read.0 read.1))
 
   -- ---- generators
@@ -97,7 +98,7 @@ module _ (r : Rules) (low : r.bound ≤ WRITTEN_EXPONENT) where
 
   generator_within : (g h : Generators) (text : Bytes) → AreSmall g.kept → plus_generator r g text ≡ Ok h → AreSmall h.kept
   generator_within g h text w e =
-      let test = passed (nat_lt g.written GENERATORS) Limit (polynomial_in r text >>= λ f. Ok (record { written = g.written + 1; kept = unless_zero g.kept f })) h e in
+      let test = passed (nat_lt g.written most_generators) Limit (polynomial_in r text >>= λ f. Ok (record { written = g.written + 1; kept = unless_zero g.kept f })) h e in
       let read = first_read (polynomial_in r text) (λ f. Ok (record { written = g.written + 1; kept = unless_zero g.kept f })) h test.1 in
       subst (λ (k : Generators). AreSmall k.kept) (same_ok read.2) (kept_within g.kept read.0 (read.0).terms (polynomial_within text read.0 read.1) w)
 
@@ -116,15 +117,15 @@ module _ (r : Rules) (low : r.bound ≤ WRITTEN_EXPONENT) where
           subst AreSmall (same_ok read.2) (all_more fs read.0 w (polynomial_within text read.0 read.1))
 
 -- ---- lines
-written_low : WRITTEN_EXPONENT ≤ WRITTEN_EXPONENT
+written_low : greatest_exponent ≤ greatest_exponent
 written_low = omega arith
 
 ideal_within : (q s : Problem) (n : Bytes) (texts : List Bytes) → HasSmallExponents q → with_ideal q n texts ≡ Ok s → HasSmallExponents s
 ideal_within q s n texts w h =
-    let count = passed (nat_lt (length q.ideals) IDEALS) Limit (if is_some (place 0 n (ideal_names q)) then Err Repeated
-    else (if nat_le (length n) NAME_BYTES then (generators_in (rules_of q) texts >>= λ fs. Ok (plus_ideal q n fs)) else Err Limit)) s h in
-    let fresh = not_failed (is_some (place 0 n (ideal_names q))) Repeated (if nat_le (length n) NAME_BYTES then (generators_in (rules_of q) texts >>= λ fs. Ok (plus_ideal q n fs)) else Err Limit) s count.1 in
-    let short = passed (nat_le (length n) NAME_BYTES) Limit (generators_in (rules_of q) texts >>= λ fs. Ok (plus_ideal q n fs)) s fresh.1 in
+    let count = passed (nat_lt (length q.ideals) most_ideals) Limit (if is_some (place 0 n (ideal_names q)) then Err Repeated
+    else (if nat_le (length n) longest_name then (generators_in (rules_of q) texts >>= λ fs. Ok (plus_ideal q n fs)) else Err Limit)) s h in
+    let fresh = not_failed (is_some (place 0 n (ideal_names q))) Repeated (if nat_le (length n) longest_name then (generators_in (rules_of q) texts >>= λ fs. Ok (plus_ideal q n fs)) else Err Limit) s count.1 in
+    let short = passed (nat_le (length n) longest_name) Limit (generators_in (rules_of q) texts >>= λ fs. Ok (plus_ideal q n fs)) s fresh.1 in
     let read = first_read (generators_in (rules_of q) texts) (λ fs. Ok (plus_ideal q n fs)) s short.1 in
     subst HasSmallExponents (same_ok read.2) (record {
       ideals = ideals_more q.ideals (record { name = n; generators = read.0 }) w.ideals (generators_within (rules_of q) written_low texts read.0 read.1);
@@ -175,7 +176,7 @@ query_within q s z h =
 
 with_query_within : (q t : Problem) (s : Statement) → HasSmallExponents q → with_query q s ≡ Ok t → HasSmallExponents t
 with_query_within q t s w h =
-    let count = passed (nat_lt (length q.queries) QUERIES) Limit (query_in q s >>= λ z. Ok (plus_query q z)) t h in
+    let count = passed (nat_lt (length q.queries) most_queries) Limit (query_in q s >>= λ z. Ok (plus_query q z)) t h in
     let read = first_read (query_in q s) (λ z. Ok (plus_query q z)) t count.1 in
     subst HasSmallExponents (same_ok read.2) (record { ideals = w.ideals; queries = queries_more q.queries read.0 w.queries (query_within q s read.0 read.1) })
 

@@ -6,18 +6,15 @@ use Rattle.std.proofs.lemmas.Bool.Decides.{nat_tests}
 use Rattle.std.proofs.lemmas.List.Elements.{All-append}
 use Rattle.fm_words.specs.Parts.{Bytes}
 use Rattle.fm_words.specs.Words.{is_name, same_bytes}
-use Rattle.fm_problem.specs.declared.limits.TheConstants.{VARIABLES, NAME_BYTES}
+use Rattle.fm_problem.specs.Limits.{most_variables, longest_name}
 use Rattle.fm_problem.specs.Problems.{plus_name}
 use Rattle.fm_problem.specs.Sound.{IsShortName, IsAbsent, AreApart}
-use Rattle.fm_problem.specs.Steps.{steps, place}
+use Rattle.fm_words.specs.Steps.{steps, place}
 use Rattle.fm_problem.proofs.AsciiNames.{both}
-use Rattle.fm_problem.proofs.FirstFaults.{same_ok, first_read}
+use Rattle.fm_words.proofs.FirstFaults.{same_ok, first_read}
 use Rattle.fm_problem.proofs.NamesRead.{name_added}
 
 -- ---- lists
-pub All_nil : {X : Type 0} (P : X → Type 0) → All P []
-All_nil P k d below = absurd (omega (arith, below))
-
 pub All_one : {X : Type 0} (P : X → Type 0) (x : X) → P x → All P (x ∷ [])
 All_one P x w zero d below = w
 All_one P x w (suc k) d below = absurd (omega (arith, below))
@@ -76,7 +73,7 @@ pub record Names (vs : List Bytes) : Type 0 where
 name_sound : (vs us : List Bytes) (w : Bytes) → is_name w ≡ true → Names vs → plus_name vs w ≡ Ok us → Names us
 name_sound vs us w name names h =
     let added = name_added vs us w h in
-    let short = leb-true (length w) NAME_BYTES (both (nat_lt (length vs) VARIABLES) (nat_le (length w) NAME_BYTES) added.1).1 in
+    let short = leb-true (length w) longest_name (both (nat_lt (length vs) most_variables) (nat_le (length w) longest_name) added.1).1 in
     subst Names added.2 (record {
       named = All_more IsShortName vs w names.named (record { name = name; short = short });
       apart = apart_more vs w names.apart (not_found 0 w vs added.0);

@@ -1,11 +1,7 @@
+pub mod Limits
 pub mod Faults
-pub mod Steps
-pub mod Factors
-pub mod SumOfTerms
-pub mod Polynomials
 pub mod Statements
 pub mod Problems
-pub mod Certificates
 pub mod Readings
 pub mod Views
 pub mod Sound

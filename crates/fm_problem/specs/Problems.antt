@@ -1,5 +1,5 @@
 -- What a problem text says, and its first fault: line by line, form before all else on a line, then from left to right.
-use Rattle.std.specs.Prelude.{◌≡◌, ◌≤◌, ℕ, ◌+◌, Bool, false, ◌&&◌, if◌then◌else◌, nat_eq, nat_le, nat_lt, List, [], ◌∷◌, ◌++◌, map, length, slice_get, Option, Some, None, is_some, Result, Ok, Err}
+use Rattle.std.specs.Prelude.{◌≡◌, ◌≤◌, ℕ, ◌+◌, Bool, true, false, ◌&&◌, if◌then◌else◌, nat_eq, nat_le, nat_lt, List, [], ◌∷◌, ◌++◌, map, length, slice_get, Option, Some, None, is_some, Result, Ok, Err}
 use Rattle.fm_gfp.specs.declared.prime.Prime.{Prime}
 use Rattle.fm_gfp.specs.Primes.{prime_of}
 use Rattle.fm_mono.specs.declared.order.Order.{Order}
@@ -10,24 +10,24 @@ use Rattle.fm_words.specs.Parts.{Bytes}
 use Rattle.fm_words.specs.Lines.{NumberedLine, lines_of, end_of}
 use Rattle.fm_problem.specs.declared.fault_kind.FaultKind.{FaultKind}
 use Rattle.fm_problem.specs.declared.fault_kind.FaultKind.TheVariants.{Syntax, UnknownName, Repeated, Range, NotPrime, Limit, NotBuilt}
-use Rattle.fm_problem.specs.declared.limits.TheConstants.{VARIABLES, NAME_BYTES, IDEALS, GENERATORS, QUERIES, STAGE, WRITTEN_EXPONENT}
+use Rattle.fm_problem.specs.Limits.{most_variables, longest_name, most_ideals, most_generators, most_queries, greatest_stage, greatest_exponent}
 use Rattle.fm_problem.specs.declared.keyword.Question.{Question}
 use Rattle.fm_problem.specs.declared.keyword.Question.TheVariants.{Zero, Root, Support, Resolution, Ext}
 use Rattle.fm_problem.specs.declared.problem.Problem.{Problem}
 use Rattle.fm_problem.specs.declared.ideal.Ideal.{Ideal}
 use Rattle.fm_problem.specs.declared.query.Query.{Query}
 use Rattle.fm_problem.specs.declared.query.Query as queries
-use Rattle.fm_problem.specs.Faults.{Fault}
-use Rattle.fm_problem.specs.Steps.{◌>>=◌, steps, or_fault, place}
-use Rattle.fm_problem.specs.Polynomials.{Rules, polynomial_in}
+use Rattle.fm_problem.specs.Faults.{Fault, on_line}
+use Rattle.fm_words.specs.Steps.{◌>>=◌, steps, or_fault, place}
+use Rattle.fm_text.specs.Polynomials.{Rules, spelled_polynomial}
 use Rattle.fm_problem.specs.Statements.{Statement, RingLine, OrderLine, IdealLine, ModuleLine, ClassLine, InvertLine, MapLine, MemberLine, statement_of}
 
 -- the variables have names, and the ideals are few
 pub record IsBounded (q : Problem) : Type 0 where
   pub named : length q.vars ≡ q.ring.vars
   pub some : 1 ≤ q.ring.vars
-  pub few : q.ring.vars ≤ VARIABLES
-  pub few_ideals : length q.ideals ≤ IDEALS
+  pub few : q.ring.vars ≤ most_variables
+  pub few_ideals : length q.ideals ≤ most_ideals
 
 -- ---- the ring
 
@@ -35,7 +35,7 @@ pub record IsBounded (q : Problem) : Type 0 where
 abbrev pub plus_name : List Bytes → Bytes → Result (List Bytes) FaultKind
 plus_name vs w =
     if is_some (place 0 w vs) then Err Repeated
-    else (if nat_lt (length vs) VARIABLES && nat_le (length w) NAME_BYTES then Ok (vs ++ w ∷ []) else Err Limit)
+    else (if nat_lt (length vs) most_variables && nat_le (length w) longest_name then Ok (vs ++ w ∷ []) else Err Limit)
 
 -- a problem with a ring and nothing else
 abbrev pub bare : Prime → List Bytes → Problem
@@ -58,7 +58,11 @@ with_order o q =
 -- ---- polynomials, ideals
 
 abbrev pub rules_of : Problem → Rules
-rules_of q = record { ring = q.ring; names = q.vars; bound = WRITTEN_EXPONENT }
+rules_of q = record { ring = q.ring; names = q.vars; bound = greatest_exponent }
+
+-- the polynomial that a text spells, or the first fault from left to right
+abbrev pub polynomial_in : Rules → Bytes → Result PolyValue FaultKind
+polynomial_in r text = on_line (spelled_polynomial r text)
 
 -- generators: how many are written, and those that aren't zero
 pub record Generators : Type 0 where
@@ -76,7 +80,7 @@ unless_zero fs f = unless_empty fs f f.terms
 -- one more generator; one too many is a fault before its text is read
 abbrev pub plus_generator : Rules → Generators → Bytes → Result Generators FaultKind
 plus_generator r g text =
-    if nat_lt g.written GENERATORS
+    if nat_lt g.written most_generators
     then (polynomial_in r text >>= λ f. Ok (record { written = g.written + 1; kept = unless_zero g.kept f }))
     else Err Limit
 
@@ -92,9 +96,9 @@ plus_ideal q n fs = record { ring = q.ring; vars = q.vars; ideals = q.ideals ++ 
 -- an ideal line: the count of ideals is judged first, then the name, then the generators
 abbrev pub with_ideal : Problem → Bytes → List Bytes → Result Problem FaultKind
 with_ideal q n texts =
-    if nat_lt (length q.ideals) IDEALS
+    if nat_lt (length q.ideals) most_ideals
     then (if is_some (place 0 n (ideal_names q)) then Err Repeated
-    else (if nat_le (length n) NAME_BYTES then (generators_in (rules_of q) texts >>= λ fs. Ok (plus_ideal q n fs)) else Err Limit))
+    else (if nat_le (length n) longest_name then (generators_in (rules_of q) texts >>= λ fs. Ok (plus_ideal q n fs)) else Err Limit))
     else Err Limit
 
 -- ---- queries
@@ -108,7 +112,7 @@ abbrev pub ideal_in : Problem → Bytes → Result ℕ FaultKind
 ideal_in q n = or_fault UnknownName (place 0 n (ideal_names q))
 
 abbrev pub stage_in : ℕ → Result ℕ FaultKind
-stage_in e = if nat_le e STAGE then Ok e else Err Limit
+stage_in e = if nat_le e greatest_stage then Ok e else Err Limit
 
 abbrev pub plus_entry : Rules → List PolyValue → Bytes → Result (List PolyValue) FaultKind
 plus_entry r fs text = polynomial_in r text >>= λ f. Ok (fs ++ f ∷ [])
@@ -141,9 +145,10 @@ abbrev pub is_principal : Option Ideal → Bool
 is_principal None = false
 is_principal (Some i) = nat_eq (length i.generators) 1
 
--- the queries that the program answers: classes of degree 1 of principal ideals
+-- the queries that the program answers: membership, and classes of degree 1 of principal ideals
 abbrev pub is_built : List Ideal → Query → Bool
 is_built ideals (queries.TheVariants.Class i k e z) = nat_eq i 1 && (is_principal (slice_get ideals k) && nat_eq (length z) 1)
+is_built ideals (queries.TheVariants.Member k f) = true
 is_built ideals z = false
 
 -- a query that isn't answered yet is a fault after every other of its line
@@ -155,7 +160,7 @@ plus_query q z = record { ring = q.ring; vars = q.vars; ideals = q.ideals; queri
 
 -- a query line: the count of queries is judged first
 abbrev pub with_query : Problem → Statement → Result Problem FaultKind
-with_query q s = if nat_lt (length q.queries) QUERIES then (query_in q s >>= λ z. Ok (plus_query q z)) else Err Limit
+with_query q s = if nat_lt (length q.queries) most_queries then (query_in q s >>= λ z. Ok (plus_query q z)) else Err Limit
 
 -- ---- the text
 

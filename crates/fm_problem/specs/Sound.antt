@@ -3,25 +3,21 @@ use Rattle.std.specs.Prelude.{◌≡◌, ◌≢◌, ◌≤◌, ◌<◌, ℕ, Boo
 use Rattle.std.specs.List.{list_all}
 use Rattle.fm_poly.specs.declared.term.Term.{Term}
 use Rattle.fm_poly.specs.declared.ring.Ring.{Ring}
-use Rattle.fm_poly.specs.Polys.{PolyValue, IsCanonical}
+use Rattle.fm_poly.specs.Polys.{PolyValue}
 use Rattle.fm_words.specs.Parts.{Bytes}
 use Rattle.fm_words.specs.Words.{is_name}
-use Rattle.fm_problem.specs.declared.limits.TheConstants.{NAME_BYTES, GENERATORS, QUERIES, STAGE, WRITTEN_EXPONENT}
+use Rattle.fm_text.specs.SumOfTerms.{IsPolynomialOf}
+use Rattle.fm_problem.specs.Limits.{longest_name, most_generators, most_queries, greatest_stage, greatest_exponent}
 use Rattle.fm_problem.specs.declared.problem.Problem.{Problem}
 use Rattle.fm_problem.specs.declared.ideal.Ideal.{Ideal}
 use Rattle.fm_problem.specs.declared.query.Query.{Query}
 use Rattle.fm_problem.specs.declared.query.Query as queries
 use Rattle.fm_problem.specs.Problems.{IsBounded, ideal_names, is_built}
 
--- a polynomial of the ring, with falling nonzero terms
-pub record IsPolynomialOf (r : Ring) (f : PolyValue) : Type 0 where
-  pub of_ring : f.ring ≡ r
-  pub canonical : IsCanonical r f.terms
-
 -- a name within the limit
 pub record IsShortName (n : Bytes) : Type 0 where
   pub name : is_name n ≡ true
-  pub short : length n ≤ NAME_BYTES
+  pub short : length n ≤ longest_name
 
 -- the name is none of these
 abbrev pub IsAbsent : Bytes → List Bytes → Type 0
@@ -38,12 +34,12 @@ pub record IsIdealOf (r : Ring) (i : Ideal) : Type 0 where
   pub named : IsShortName i.name
   pub of_ring : All (IsPolynomialOf r) i.generators
   pub nonzero : All (λ f. f.terms ≢ []) i.generators
-  pub few : length i.generators ≤ GENERATORS
+  pub few : length i.generators ≤ most_generators
 
 -- a query on ideals of the problem, with degrees, stages and polynomials within the limits and of the ring
 abbrev pub IsQueryOf : Problem → Query → Type 0
 IsQueryOf q (queries.TheVariants.Zero i k) = (i ≤ q.ring.vars) × (k < length q.ideals)
-IsQueryOf q (queries.TheVariants.Class i k e z) = (i ≤ q.ring.vars) × (k < length q.ideals) × (e ≤ STAGE) × All (IsPolynomialOf q.ring) z
+IsQueryOf q (queries.TheVariants.Class i k e z) = (i ≤ q.ring.vars) × (k < length q.ideals) × (e ≤ greatest_stage) × All (IsPolynomialOf q.ring) z
 IsQueryOf q (queries.TheVariants.Root i k) = (i ≤ q.ring.vars) × (k < length q.ideals)
 IsQueryOf q (queries.TheVariants.Invert i k f) = (i ≤ q.ring.vars) × (k < length q.ideals) × IsPolynomialOf q.ring f
 IsQueryOf q (queries.TheVariants.Support i k) = (i ≤ q.ring.vars) × (k < length q.ideals)
@@ -59,14 +55,14 @@ pub record IsProblem (q : Problem) : Type 0 where
   pub variables_apart : AreApart q.vars
   pub ideals : All (IsIdealOf q.ring) q.ideals
   pub ideals_apart : AreApart (ideal_names q)
-  pub few_queries : length q.queries ≤ QUERIES
+  pub few_queries : length q.queries ≤ most_queries
   pub asked : All (IsQueryOf q) q.queries
   pub built : All (λ z. is_built q.ideals z ≡ true) q.queries
 
 -- ---- exponents
 -- each exponent is one that can be written
 abbrev pub are_small : List ℕ → Bool
-are_small a = list_all (λ e. nat_le e WRITTEN_EXPONENT) a
+are_small a = list_all (λ e. nat_le e greatest_exponent) a
 
 abbrev pub AreSmallTerms : List Term → Type 0
 AreSmallTerms [] = Unit {0}

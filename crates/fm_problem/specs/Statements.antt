@@ -10,7 +10,7 @@ use Rattle.fm_problem.specs.declared.keyword.Question.{Question}
 use Rattle.fm_problem.specs.declared.keyword.Question.TheVariants.{Zero, Root, Support, Resolution, Ext}
 use Rattle.fm_problem.specs.declared.keyword.Keyword.{Keyword}
 use Rattle.fm_problem.specs.declared.keyword.Keyword.TheVariants.{Ring, Order as OrderWord, Ideal, Module, Class, Invert, Map, Member}
-use Rattle.fm_problem.specs.Factors.{one_word, is_polynomial, are_polynomials}
+use Rattle.fm_text.specs.Factors.{one_word, is_polynomial, are_polynomials}
 
 -- what a line of each form says; the texts of polynomials have been tested for their form alone
 pub data Statement : Type 0 where

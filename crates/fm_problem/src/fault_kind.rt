@@ -2,6 +2,9 @@
 ghost use Rattle.std.specs.Prelude.{◌≡◌};
 ghost use Rattle.fm_problem.specs.Faults.{fault_text};
 
+use fm_text::TextFault;
+use fm_words::ReadError;
+
 /// What is wrong with a line of a problem text.
 #[derive(Clone, Copy, Debug, PartialEq, Eq)]
 pub enum FaultKind {
@@ -35,5 +38,31 @@ impl FaultKind {
             FaultKind::Limit => "above a limit",
             FaultKind::NotBuilt => "not built",
         }
+    }
+}
+
+impl From<TextFault> for FaultKind {
+    ghost use Rattle.std.specs.Prelude.{◌≡◌};
+    ghost use Rattle.fm_problem.specs.Faults.{kind_of};
+
+    ghost from_gives = { λ fault kind. kind ≡ kind_of fault };
+
+    fn from(fault: TextFault) -> FaultKind {
+        match fault {
+            TextFault::Syntax => FaultKind::Syntax,
+            TextFault::UnknownName => FaultKind::UnknownName,
+            TextFault::Limit => FaultKind::Limit,
+        }
+    }
+}
+
+impl From<FaultKind> for ReadError<FaultKind> {
+    ghost use Rattle.std.specs.Prelude.{◌≡◌};
+    ghost use Rattle.fm_words.specs.declared.read_error.ReadError.TheVariants.{Fault};
+
+    ghost from_gives = { λ kind e. e ≡ Fault kind };
+
+    fn from(kind: FaultKind) -> ReadError<FaultKind> {
+        ReadError::Fault(kind)
     }
 }

@@ -1,20 +1,20 @@
 // Ideals of a problem text.
-ghost use Rattle.std.specs.Prelude.{◌≡◌, IfOk, OnErr, OnOk, true};
+ghost use Rattle.std.specs.Prelude.{◌≡◌, OnOk, true};
 ghost use Rattle.fm_words.specs.Parts.{parts};
 ghost use Rattle.fm_words.specs.Words.{is_name};
 ghost use Rattle.fm_words.specs.declared.mark.Mark.TheVariants.{Comma};
 ghost use Rattle.fm_problem.specs.Problems.{IsBounded, generators_in, rules_of as rules_of_problem, unless_zero, with_ideal};
-ghost use Rattle.fm_problem.specs.Views.{FitsRules, Gives, rules_view};
+ghost use Rattle.fm_text.specs.Views.{FitsRules, rules_view};
+ghost use Rattle.fm_words.specs.Steps.{Gives};
 
 use crate::limits::{GENERATORS, IDEALS, NAME_BYTES, WRITTEN_EXPONENT};
-use crate::line_error::LineError;
 use crate::names::name_of;
 use crate::places::ideal_place;
-use crate::polynomials::read_polynomial;
-use crate::rules::Rules;
+use crate::polynomials::polynomial_of_line;
 use crate::{FaultKind, Ideal, Name, Problem};
 use fm_poly::Poly;
-use fm_words::{Mark, first_part};
+use fm_text::Rules;
+use fm_words::{Mark, ReadError, first_part};
 use sqlite_items::Items;
 use std::alloc::{AllocError, Global};
 
@@ -42,7 +42,11 @@ fn keep(kept: &mut Items<Poly>, f: Poly) -> Result<(), AllocError>
     Ok(())
 }
 
-fn read_generators(alloc: Global, rules: &Rules<'_>, text: &[u8]) -> Result<Items<Poly>, LineError>
+fn read_generators(
+    alloc: Global,
+    rules: &Rules<'_>,
+    text: &[u8],
+) -> Result<Items<Poly>, ReadError<FaultKind>>
     requires { FitsRules rules.now }
     ensures { Gives (λ v. v) result (generators_in (rules_view rules.now) (parts Comma text.now)) }
 {
@@ -52,9 +56,9 @@ fn read_generators(alloc: Global, rules: &Rules<'_>, text: &[u8]) -> Result<Item
     'generators: loop {
         let (part, more) = first_part(from, Mark::Comma);
         if written >= GENERATORS {
-            return Err(LineError::Fault(FaultKind::Limit));
+            return Err(ReadError::Fault(FaultKind::Limit));
         }
-        let f = read_polynomial(alloc, rules, part)?;
+        let f = polynomial_of_line(alloc, rules, part)?;
         keep(&mut kept, f)?;
         let Some(rest) = more else {
             return Ok(kept);
@@ -70,20 +74,20 @@ pub fn add_ideal(
     problem: &mut Problem,
     name: &[u8],
     generators: &[u8],
-) -> Result<(), LineError>
+) -> Result<(), ReadError<FaultKind>>
     requires bounded { IsBounded problem.old }
     requires name { is_name name.now ≡ true }
     ensures gives { Gives (λ _. problem.new) result (with_ideal problem.old name.now (parts Comma generators.now)) }
     ensures bounded { OnOk result (IsBounded problem.new) }
 {
     if problem.ideals.len() >= IDEALS {
-        return Err(LineError::Fault(FaultKind::Limit));
+        return Err(ReadError::Fault(FaultKind::Limit));
     }
     if ideal_place(problem.ideals.as_slice(), name).is_some() {
-        return Err(LineError::Fault(FaultKind::Repeated));
+        return Err(ReadError::Fault(FaultKind::Repeated));
     }
     if name.len() > NAME_BYTES {
-        return Err(LineError::Fault(FaultKind::Limit));
+        return Err(ReadError::Fault(FaultKind::Limit));
     }
     let kept = read_generators(alloc, &rules_of(problem), generators)?;
     let text = name_of(alloc, name)?;

@@ -1,15 +1,11 @@
 // Laws of problem texts.
-ghost use Rattle.std.specs.Prelude.{All, Err, List, Ok, ℕ, ◌++◌, ◌<◌, ◌∷◌, ◌⊎◌, ◌≡◌};
-ghost use Rattle.fm_poly.specs.Polys.{IsCanonical, IsTermOf, meaning};
-ghost use Rattle.fm_poly.specs.Texts.{AreNames};
-ghost use Rattle.fm_poly.specs.declared.ring.Ring.{Ring};
-ghost use Rattle.fm_poly.specs.declared.term.Term.{Term};
+ghost use Rattle.std.specs.Prelude.{Err, Ok, ◌++◌, ◌<◌, ◌∷◌, ◌⊎◌, ◌≡◌};
+ghost use Rattle.fm_words.specs.Words.{AreNames};
 ghost use Rattle.fm_words.specs.Lines.{end_of};
 ghost use Rattle.fm_words.specs.Parts.{Bytes};
 ghost use Rattle.fm_problem.specs.Faults.{Fault};
 ghost use Rattle.fm_problem.specs.Problems.{problem_of, query_of};
 ghost use Rattle.fm_problem.specs.Sound.{HasSmallExponents, IsProblem, IsQueryOf};
-ghost use Rattle.fm_problem.specs.SumOfTerms.{sum_of_terms};
 ghost use Rattle.fm_problem.specs.declared.problem.Problem.{Problem};
 ghost use Rattle.fm_problem.specs.declared.query.Query.{Query};
 
@@ -33,14 +29,6 @@ pub fn problems_of_texts_are_sound()
     ensures problem { (text : Bytes) (q : Problem) → problem_of text ≡ Ok q → IsProblem q }
     ensures query { (q : Problem) (line : Bytes) (z : Query) → IsProblem q → query_of q line ≡ Ok z → IsQueryOf q z }
     ensures names { (q : Problem) → IsProblem q → AreNames q.vars }
-{}
-
-/// The sum of written terms, one exponent for each variable and a coefficient below p in each, is a falling list of
-/// nonzero terms, and it means the sum of what the terms mean. So it is the only list of terms that a polynomial which
-/// the text spells can have.
-pub fn sums_of_written_terms()
-    ensures falling { (r : Ring) (ts : List Term) → All (IsTermOf r) ts → IsCanonical r (sum_of_terms r ts) }
-    ensures meaning { (r : Ring) (ts : List Term) → meaning r (sum_of_terms r ts) ≡ meaning r ts }
 {}
 
 /// The exponents of a problem that a text says are those that can be written: at most 1,000.

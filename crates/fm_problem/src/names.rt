@@ -1,16 +1,14 @@
 // Names of a ring's variables.
-ghost use Rattle.std.specs.Prelude.{◌≡◌, [], IfOk, map, string_bytes, true};
+ghost use Rattle.std.specs.Prelude.{◌≡◌, [], IfOk, string_bytes, true};
 ghost use Rattle.std.specs.List.{list_all};
 ghost use Rattle.fm_words.specs.Words.{is_name, words};
 ghost use Rattle.fm_problem.specs.Problems.{plus_name};
-ghost use Rattle.fm_problem.specs.Steps.{steps};
-ghost use Rattle.fm_problem.specs.Views.{Gives};
+ghost use Rattle.fm_words.specs.Steps.{Gives, steps};
 
 use crate::limits::{NAME_BYTES, VARIABLES};
-use crate::line_error::LineError;
-use crate::places::variable_place;
 use crate::{FaultKind, Names};
-use fm_words::next_word;
+use fm_text::variable_place;
+use fm_words::{ReadError, next_word};
 use std::alloc::{AllocError, Global};
 
 /// A name as text of its own.
@@ -27,18 +25,18 @@ pub fn name_of(alloc: Global, word: &[u8]) -> Result<String, AllocError>
     }
 }
 
-fn add_name(alloc: Global, names: &mut Names, word: &[u8]) -> Result<(), LineError>
+fn add_name(alloc: Global, names: &mut Names, word: &[u8]) -> Result<(), ReadError<FaultKind>>
     requires { is_name word.now ≡ true }
     ensures { Gives (λ _. names.new) result (plus_name names.old word.now) }
 {
     if variable_place(names.as_slice(), word).is_some() {
-        return Err(LineError::Fault(FaultKind::Repeated));
+        return Err(ReadError::Fault(FaultKind::Repeated));
     }
     if names.len() >= VARIABLES {
-        return Err(LineError::Fault(FaultKind::Limit));
+        return Err(ReadError::Fault(FaultKind::Limit));
     }
     if word.len() > NAME_BYTES {
-        return Err(LineError::Fault(FaultKind::Limit));
+        return Err(ReadError::Fault(FaultKind::Limit));
     }
     let name = name_of(alloc, word)?;
     names.push(name)?;
@@ -46,7 +44,7 @@ fn add_name(alloc: Global, names: &mut Names, word: &[u8]) -> Result<(), LineErr
 }
 
 /// The names of the variables of a ring line.
-pub fn read_names(alloc: Global, text: &[u8]) -> Result<Names, LineError>
+pub fn read_names(alloc: Global, text: &[u8]) -> Result<Names, ReadError<FaultKind>>
     requires { list_all is_name (words text.now) ≡ true }
     ensures { Gives (λ n. n) result (steps plus_name [] (words text.now)) }
 {

@@ -3,7 +3,7 @@ ghost use Rattle.std.specs.Prelude.{◌≡◌};
 ghost use Rattle.fm_problem.specs.Views.{error_at};
 
 use crate::FaultKind;
-use crate::line_error::LineError;
+use fm_words::ReadError;
 use std::alloc::{AllocError, AllocFailed};
 use thiserror::Error;
 
@@ -40,12 +40,12 @@ impl<T: Drop> From<AllocFailed<T>> for ProblemError {
 
 impl ProblemError {
     /// The error of a line as that of a text.
-    pub(crate) fn at(line: u32, error: LineError) -> ProblemError
+    pub(crate) fn at(line: u32, error: ReadError<FaultKind>) -> ProblemError
         ensures { result ≡ error_at line error }
     {
         match error {
-            LineError::Fault(kind) => ProblemError::Fault { line, kind },
-            LineError::Memory => ProblemError::Memory,
+            ReadError::Fault(kind) => ProblemError::Fault { line, kind },
+            ReadError::Memory => ProblemError::Memory,
         }
     }
 }

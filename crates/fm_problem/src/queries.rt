@@ -3,19 +3,20 @@ ghost use Rattle.std.specs.Prelude.{◌≡◌, OnOk, slice_get};
 ghost use Rattle.fm_words.specs.Words.{value};
 ghost use Rattle.fm_problem.specs.Problems.{IsBounded, asked, degree_in, ideal_in, is_built as is_built_query, is_principal as is_principal_ideal, module_query as module_query_of, query_in as query_of_line, stage_in, vector_in, with_query};
 ghost use Rattle.fm_problem.specs.Statements.{entries_of};
-ghost use Rattle.fm_problem.specs.Views.{FitsRules, Gives, Is, rules_view, statement_view};
+ghost use Rattle.fm_text.specs.Views.{FitsRules, rules_view};
+ghost use Rattle.fm_problem.specs.Views.{statement_view};
+ghost use Rattle.fm_words.specs.Steps.{Gives, Is};
 
 use crate::ideals::rules_of;
 use crate::keyword::Question;
 use crate::limits::{QUERIES, STAGE};
-use crate::line_error::LineError;
 use crate::places::ideal_place;
-use crate::polynomials::read_polynomial;
-use crate::rules::Rules;
+use crate::polynomials::polynomial_of_line;
 use crate::statements::StatementText;
 use crate::{FaultKind, Ideal, Problem, Query};
 use fm_poly::Poly;
-use fm_words::{Mark, first_part, is_blank, number};
+use fm_text::Rules;
+use fm_words::{Mark, ReadError, first_part, is_blank, number};
 use sqlite_items::Items;
 use std::alloc::Global;
 
@@ -54,7 +55,11 @@ fn find_ideal(problem: &Problem, name: &[u8]) -> Result<u32, FaultKind>
     Ok(k as u32)
 }
 
-fn read_vector(alloc: Global, rules: &Rules<'_>, text: &[u8]) -> Result<Items<Poly>, LineError>
+fn read_vector(
+    alloc: Global,
+    rules: &Rules<'_>,
+    text: &[u8],
+) -> Result<Items<Poly>, ReadError<FaultKind>>
     requires { FitsRules rules.now }
     ensures { Gives (λ v. v) result (vector_in (rules_view rules.now) (entries_of text.now)) }
 {
@@ -65,7 +70,7 @@ fn read_vector(alloc: Global, rules: &Rules<'_>, text: &[u8]) -> Result<Items<Po
     let mut from = text;
     'entries: loop {
         let (part, more) = first_part(from, Mark::Comma);
-        let f = read_polynomial(alloc, rules, part)?;
+        let f = polynomial_of_line(alloc, rules, part)?;
         entries.push(f)?;
         let Some(rest) = more else {
             return Ok(entries);
@@ -91,7 +96,7 @@ fn read_asked(
     alloc: Global,
     problem: &Problem,
     statement: StatementText<'_>,
-) -> Result<Query, LineError>
+) -> Result<Query, ReadError<FaultKind>>
     requires { IsBounded problem.now }
     ensures { Gives (λ z. z) result (asked problem.now (statement_view statement.entry)) }
 {
@@ -112,7 +117,7 @@ fn read_asked(
         StatementText::Invert(degree, name, text) => {
             let i = read_degree(problem, degree)?;
             let ideal = find_ideal(problem, name)?;
-            let f = read_polynomial(alloc, &rules, text)?;
+            let f = polynomial_of_line(alloc, &rules, text)?;
             Ok(Query::Invert { i, ideal, f })
         }
         StatementText::Map(degree, from, to) => {
@@ -123,10 +128,10 @@ fn read_asked(
         }
         StatementText::Member(name, text) => {
             let ideal = find_ideal(problem, name)?;
-            let f = read_polynomial(alloc, &rules, text)?;
+            let f = polynomial_of_line(alloc, &rules, text)?;
             Ok(Query::Member { ideal, f })
         }
-        _ => Err(LineError::Fault(FaultKind::Syntax)),
+        _ => Err(ReadError::Fault(FaultKind::Syntax)),
     }
 }
 
@@ -147,6 +152,7 @@ fn is_built(problem: &Problem, query: &Query) -> bool
         Query::Class { i, ideal, e: _, z } => {
             *i == 1 && (is_principal(problem.ideals.as_slice(), *ideal) && z.len() == 1)
         }
+        Query::Member { .. } => true,
         _ => false,
     }
 }
@@ -156,13 +162,13 @@ pub fn query_in(
     alloc: Global,
     problem: &Problem,
     statement: StatementText<'_>,
-) -> Result<Query, LineError>
+) -> Result<Query, ReadError<FaultKind>>
     requires { IsBounded problem.now }
     ensures { Gives (λ z. z) result (query_of_line problem.now (statement_view statement.entry)) }
 {
     let query = read_asked(alloc, problem, statement)?;
     if !is_built(problem, &query) {
-        return Err(LineError::Fault(FaultKind::NotBuilt));
+        return Err(ReadError::Fault(FaultKind::NotBuilt));
     }
     Ok(query)
 }
@@ -172,13 +178,13 @@ pub fn add_query(
     alloc: Global,
     problem: &mut Problem,
     statement: StatementText<'_>,
-) -> Result<(), LineError>
+) -> Result<(), ReadError<FaultKind>>
     requires { IsBounded problem.old }
     ensures gives { Gives (λ _. problem.new) result (with_query problem.old (statement_view statement.entry)) }
     ensures bounded { OnOk result (IsBounded problem.new) }
 {
     if problem.queries.len() >= QUERIES {
-        return Err(LineError::Fault(FaultKind::Limit));
+        return Err(ReadError::Fault(FaultKind::Limit));
     }
     let query = query_in(alloc, problem, statement)?;
     problem.queries.push(query)?;

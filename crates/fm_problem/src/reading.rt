@@ -7,11 +7,9 @@ ghost use Rattle.fm_problem.specs.Problems.{IsBounded, after_ring, order_in as o
 ghost use Rattle.fm_problem.specs.Readings.{Reads};
 ghost use Rattle.fm_problem.specs.Sound.{IsProblem};
 ghost use Rattle.fm_problem.specs.Statements.{statement_of};
-ghost use Rattle.fm_problem.specs.Steps.{steps};
-ghost use Rattle.fm_problem.specs.Views.{Gives};
+ghost use Rattle.fm_words.specs.Steps.{Gives, steps};
 
 use crate::ideals::add_ideal;
-use crate::line_error::LineError;
 use crate::names::read_names;
 use crate::queries::{add_query, query_in};
 use crate::statements::{StatementText, read_statement};
@@ -19,7 +17,7 @@ use crate::{FaultKind, Problem, ProblemError, Query};
 use fm_gfp::Prime;
 use fm_mono::Order;
 use fm_poly::Ring;
-use fm_words::{Lines, end_of, next_line, number};
+use fm_words::{Lines, ReadError, end_of, next_line, number};
 use sqlite_items::Items;
 use std::alloc::Global;
 
@@ -31,15 +29,15 @@ fn read_prime(digits: &[u8]) -> Option<Prime>
 }
 
 // The problem that a ring line begins.
-fn read_ring(alloc: Global, line: &[u8]) -> Result<Problem, LineError>
+fn read_ring(alloc: Global, line: &[u8]) -> Result<Problem, ReadError<FaultKind>>
     ensures gives { Gives (λ q. q) result (ring_of (statement_of line.now)) }
     ensures bounded { IfOk result IsBounded }
 {
     let Some(StatementText::Ring(digits, names)) = read_statement(line) else {
-        return Err(LineError::Fault(FaultKind::Syntax));
+        return Err(ReadError::Fault(FaultKind::Syntax));
     };
     let Some(prime) = read_prime(digits) else {
-        return Err(LineError::Fault(FaultKind::NotPrime));
+        return Err(ReadError::Fault(FaultKind::NotPrime));
     };
     let vars = read_names(alloc, names)?;
     let ring = Ring {
@@ -65,17 +63,17 @@ fn order_in(line: &[u8]) -> Option<Order>
 }
 
 // Reads a line after the ring line and the order line.
-fn add_line(alloc: Global, problem: &mut Problem, line: &[u8]) -> Result<(), LineError>
+fn add_line(alloc: Global, problem: &mut Problem, line: &[u8]) -> Result<(), ReadError<FaultKind>>
     requires { IsBounded problem.old }
     ensures gives { Gives (λ _. problem.new) result (with_line problem.old (statement_of line.now)) }
     ensures bounded { OnOk result (IsBounded problem.new) }
 {
     let Some(statement) = read_statement(line) else {
-        return Err(LineError::Fault(FaultKind::Syntax));
+        return Err(ReadError::Fault(FaultKind::Syntax));
     };
     match statement {
-        StatementText::Ring(_, _) => Err(LineError::Fault(FaultKind::Syntax)),
-        StatementText::Order(_) => Err(LineError::Fault(FaultKind::Syntax)),
+        StatementText::Ring(_, _) => Err(ReadError::Fault(FaultKind::Syntax)),
+        StatementText::Order(_) => Err(ReadError::Fault(FaultKind::Syntax)),
         StatementText::Ideal(name, generators) => {
             add_ideal(alloc, problem, name, generators)?;
             Ok(())

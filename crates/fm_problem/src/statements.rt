@@ -4,13 +4,13 @@ ghost use Rattle.std.specs.List.{list_all};
 ghost use Rattle.fm_words.specs.Parts.{pair, parts, triple};
 ghost use Rattle.fm_words.specs.Words.{after_word, is_name as is_name_word, words};
 ghost use Rattle.fm_words.specs.declared.mark.Mark.TheVariants.{Equals, Open};
-ghost use Rattle.fm_problem.specs.Factors.{one_word as only_word};
+ghost use Rattle.fm_text.specs.Factors.{one_word as only_word};
 ghost use Rattle.fm_problem.specs.Statements.{are_entries as are_entries_of, class_line, ideal_line, invert_line, map_line, member_line, module_line, order_line, ring_line, statement_of};
 ghost use Rattle.fm_problem.specs.Views.{statement_view};
 
-use crate::forms::{are_polynomials, is_polynomial};
 use crate::keyword::{Keyword, Question, order_named, read_keyword};
 use fm_mono::Order;
+use fm_text::{are_polynomials, is_polynomial};
 use fm_words::{
     Mark, is_blank, is_name, is_number, next_word, one_word, three_words, two_parts, two_words,
 };

@@ -3,9 +3,7 @@
 ghost use Rattle.std.specs.Prelude.{IfOk};
 ghost use Rattle.fm_problem.specs.Problems.{IsBounded};
 
-use crate::{
-    FaultKind, PolyFault, Problem, ProblemError, Query, read_poly, read_problem, read_query,
-};
+use crate::{FaultKind, Problem, ProblemError, Query, read_problem, read_query};
 use fm_gfp::Prime;
 use fm_mono::{Mono, Order};
 use fm_poly::{Poly, Ring};
@@ -38,7 +36,7 @@ const FORMS: [Row; 26] = [
     ("ring 2 x\nideal I = x +- x", 2, FaultKind::Syntax),
     ("ring 2 x\nideal I = x\nmember I-x", 3, FaultKind::Syntax),
     ("ring 2 x\nideal I = x\ninvert 1 I+x", 3, FaultKind::Syntax),
-    ("ring 2 x\nideal I = x\nmember I -x", 3, FaultKind::NotBuilt),
+    ("ring 2 x\nideal I = x\nzero 1 I", 3, FaultKind::NotBuilt),
     (
         "ring 2 x\nideal I = x\nzero 9 T extra",
         3,
@@ -118,6 +116,98 @@ const VALUES: [Row; 24] = [
         "ring 2 x\nideal I = x\nclass 1 I 0 (t)\nfoo",
         3,
         FaultKind::UnknownName,
+    ),
+];
+
+// How a text goes up to a limit: by the number in its part, or by how often its part stands, each time with its own number.
+#[derive(Clone, Copy)]
+enum Reach {
+    Number(u32),
+    Count(u32),
+}
+
+// Texts at a limit of problem texts: what stands before the part, the part before its number and after it, what stands at the end, the
+// limit, and the line in which one more is a fault.
+type Limit = (
+    &'static str,
+    (&'static str, &'static str),
+    &'static str,
+    Reach,
+    u32,
+);
+
+// A name is too long where its number has one digit more.
+const LIMITS: [Limit; 11] = [
+    (
+        "ring 2 ",
+        ("abcdefg", ""),
+        "",
+        Reach::Number(999_999_999),
+        1,
+    ),
+    (
+        "ring 2 x\n",
+        ("ideal abcdefg", " = x"),
+        "",
+        Reach::Number(999_999_999),
+        2,
+    ),
+    (
+        "ring 2 x\nideal I = ",
+        ("x^", ""),
+        "",
+        Reach::Number(1_000),
+        2,
+    ),
+    (
+        "ring 2 x\nideal I = x^400*",
+        ("x^", ""),
+        "",
+        Reach::Number(600),
+        2,
+    ),
+    (
+        "ring 2 x\nideal I = 0*",
+        ("x^", ""),
+        "",
+        Reach::Number(1_000),
+        2,
+    ),
+    (
+        "ring 2 x\nideal I = x\n",
+        ("class 1 I ", " (x)"),
+        "",
+        Reach::Number(16),
+        3,
+    ),
+    ("ring 2", (" x", ""), "", Reach::Count(8), 1),
+    (
+        "ring 2 x\n",
+        ("ideal I", " = x\n"),
+        "",
+        Reach::Count(100),
+        102,
+    ),
+    (
+        "ring 2 x\nideal I = ",
+        ("x^", ","),
+        "0",
+        Reach::Count(63),
+        2,
+    ),
+    (
+        "ring 2 x\nideal I = ",
+        ("0*x^", ","),
+        "0",
+        Reach::Count(63),
+        2,
+    ),
+    (
+        "ring 2 x\nideal I = x\n",
+        ("class 1 I 0 (x^", ")\n"),
+        "",
+        Reach::Count(1_000),
+        1_003,
     ),
 ];
 
@@ -246,47 +336,6 @@ fn reads_queries_alone(rt: HostRuntime) -> Result<(), Fail> {
 }
 
 #[test]
-fn reads_polynomials_of_certificates(rt: HostRuntime) -> Result<(), Fail> {
-    let problem = problem_of(rt.alloc(), b"ring 5 x y")?;
-    let names = problem.vars.as_slice();
-    assert!(rt; names.len() == 2);
-    let ring = Ring {
-        prime: Prime::Five,
-        vars: 2,
-        order: Order::Grevlex,
-    };
-    let f = read_poly(rt.alloc(), ring, names, b"-x^16777215*y+06*x+0*y^16777215")?;
-    assert!(rt; is_poly(&f, &[(4, &[16777215, 1]), (1, &[1, 0])]));
-    for text in [
-        "",
-        "x y",
-        "x +y",
-        "t",
-        "x^16777216+t",
-        "x^16777216*18446744073709551616",
-        "2^3",
-    ] {
-        assert!(rt;
-            matches!(
-                &read_poly(rt.alloc(), ring, names, text.as_bytes()),
-                Err(PolyFault::Form)
-            ),
-            "{text}"
-        );
-    }
-    for text in ["x^16777216", "0*x^16777215*x", "y-x^99999999999999999999"] {
-        assert!(rt;
-            matches!(
-                &read_poly(rt.alloc(), ring, names, text.as_bytes()),
-                Err(PolyFault::Exponent)
-            ),
-            "{text}"
-        );
-    }
-    Ok(())
-}
-
-#[test]
 fn judges_cut_texts(rt: HostRuntime) -> Result<(), Fail> {
     for cut in 0..NORMAL_CROSSING.len() {
         let line = match cut {
@@ -332,6 +381,36 @@ fn with_ideals(alloc: Global, count: u32, last: &str) -> Result<Vec<u8>, Fail> {
     }
     text.extend_from_slice(last.as_bytes())?;
     Ok(text)
+}
+
+// The text at its limit, or past it by one.
+fn text_at(alloc: Global, limit: &Limit, past: u8) -> Result<Vec<u8>, Fail> {
+    let (head, (before, after), tail, reach, _) = *limit;
+    let past = u32::from(past);
+    let numbers = match reach {
+        Reach::Number(most) => most.saturating_add(past)..most.saturating_add(past + 1),
+        Reach::Count(most) => 0..most.saturating_add(past),
+    };
+    let mut text = Vec::new(alloc);
+    text.extend_from_slice(head.as_bytes())?;
+    for k in numbers {
+        text.extend_from_slice(format!(in alloc; "{before}{k}{after}")?.as_bytes())?;
+    }
+    text.extend_from_slice(tail.as_bytes())?;
+    Ok(text)
+}
+
+#[test]
+fn reads_texts_up_to_the_limits(rt: HostRuntime) -> Result<(), Fail> {
+    let alloc = rt.alloc();
+    for limit in &LIMITS {
+        let within = text_at(alloc, limit, 0)?;
+        let past = text_at(alloc, limit, 1)?;
+        let fault = Some((limit.4, FaultKind::Limit));
+        assert_eq!(rt; fault_of(alloc, &within)?, None, "{}", limit.1.0);
+        assert_eq!(rt; fault_of(alloc, &past)?, fault, "{}", limit.1.0);
+    }
+    Ok(())
 }
 
 #[test]

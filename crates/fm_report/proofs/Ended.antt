@@ -4,7 +4,7 @@ use Rattle.std.specs.Prelude.{codes, cond}
 use Rattle.std.specs.List.{list_all, onto_first}
 use Rattle.std.proofs.lemmas.Bool.{and_parts, eqb-true}
 use Rattle.fm_algebra.specs.Poly.{Some-same}
-use Rattle.fm_poly.specs.Texts.{◌>>=◌, where_so}
+use Rattle.fm_words.specs.Options.{◌>>=◌, where_so}
 use Rattle.fm_words.specs.declared.mark.Mark.TheVariants.{Blank}
 use Rattle.fm_words.specs.Parts.{Bytes, is_mark, parts, before_mark, after_mark}
 use Rattle.fm_words.specs.Words.{nonempty, words, same_bytes}
@@ -16,10 +16,10 @@ use Rattle.fm_cert.specs.Fields.{Values, exact_number, read_row}
 use Rattle.fm_cert.specs.Kinds.{EndKind, Kind, row, first_item, kind_among, part_kind, answer_kind, unanswered_kind, refused_kind, closing_kind, by_first, kind_of}
 use Rattle.fm_cert.specs.Kinds as kinds
 use Rattle.fm_cert.specs.Lines.{Line, Head, Question, Row, is_full, exact_words, begins_head, question_of, row_of, line_of}
-use Rattle.fm_problem.specs.Steps.{place}
+use Rattle.fm_words.specs.Steps.{place}
 use Rattle.fm_problem.specs.Problems.{ideal_names}
 use Rattle.fm_report.specs.Parts.{Part, given}
-use Rattle.fm_report.specs.Sheets.{Block, Answer, Sheet, blank, new_block, blocks_of, is_about, ring_in, names_in, numbered, say_head, say_answer, is_answer, say_end, say_part, say_named, say_datum, say_row, say}
+use Rattle.fm_report.specs.Sheets.{Block, Answer, Sheet, blank, new_block, blocks_of, is_about, ring_in, names_in, numbered, say_head, say_answer, is_answer, say_end, say_part, say_named, say_differential, add_differential, say_datum, say_row, say}
 use Rattle.fm_report.specs.Verdicts.{Stated, unreadable}
 use Rattle.fm_report.specs.Reading.{stated_at_done, stated_by, rests_on, broken, line_in, said_of, states, sheet_after, reading, lines_from, statements}
 use Rattle.fm_report.specs.Answered.{begins_with, ended_answers, answers_of}
@@ -64,6 +64,19 @@ kept_part s k o = kept_where s _ (option_map (λ a. record s { parts = s.parts +
 kept_named : (s : Sheet) (wanted : Block → ℕ) (n : ℕ) (add : Block → Part → Block) (k : ℕ) → Kept s (say_named s wanted n add k)
 kept_named s wanted n add k = kept_bind s s.block _ (λ b. kept_where s _ (option_map (λ x. record s { block = Some (add b x) }) (numbered s.parts k)) (kept_map s (λ x. record s { block = Some (add b x) }) (numbered s.parts k) (λ x. refl)))
 
+kept_differential : (s : Sheet) (b : Option Block) (z : Option Query) (j k : ℕ) → Kept s (say_differential s b z j k)
+kept_differential s None (Some (queries.TheVariants.Member m f)) j k = kept_map s (λ x. s) (numbered s.parts k) (λ x. refl)
+kept_differential s None None j k = kept_none s
+kept_differential s None (Some (queries.TheVariants.Zero i m)) j k = kept_none s
+kept_differential s None (Some (queries.TheVariants.Class i m e z)) j k = kept_none s
+kept_differential s None (Some (queries.TheVariants.Root i m)) j k = kept_none s
+kept_differential s None (Some (queries.TheVariants.Invert i m f)) j k = kept_none s
+kept_differential s None (Some (queries.TheVariants.Support i m)) j k = kept_none s
+kept_differential s None (Some (queries.TheVariants.Map i m t)) j k = kept_none s
+kept_differential s None (Some (queries.TheVariants.Resolution i m)) j k = kept_none s
+kept_differential s None (Some (queries.TheVariants.ExtOf i m)) j k = kept_none s
+kept_differential s (Some b) z j k = kept_named s (λ b. suc (length b.differentials)) j add_differential k
+
 kept_end : (s : Sheet) (a : Answer) (e : EndKind) (v : Values (kinds.end_row e)) → s.answer ≡ Some a → Kept s (say_end s e v)
 kept_end s a e v h = by (is_answer e)
   where
@@ -93,7 +106,7 @@ row_kept s a kinds.Stack v h d = kept_part s v.0 _
 row_kept s a kinds.Times v h d = kept_part s v.0 _
 row_kept s a kinds.Pick v h d = kept_part s v.0 _
 row_kept s a kinds.Datum v h d = datum_kept s v.0 v.1.0
-row_kept s a kinds.D v h d = kept_named s _ v.0 _ v.1.0
+row_kept s a kinds.D v h d = kept_differential s s.block s.asked v.0 v.1.0
 row_kept s a kinds.Theta v h d = kept_named s _ v.0 _ v.1.0
 row_kept s a kinds.Cocycles v h d = kept_named s _ 0 _ v.0
 row_kept s a kinds.Z v h d = kept_named s _ 0 _ v.0

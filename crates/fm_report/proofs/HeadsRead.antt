@@ -1,7 +1,7 @@
 -- The head of a report and its questions are read back.
 use Rattle.std.proofs.Common.{◌≡◌, ◌≢◌, ℕ, zero, suc, ◌+◌, ◌^◌, ◌<◌, ◌≤◌, Bool, true, false, ◌&&◌, if◌then◌else◌, nat_lt, nat_le, List, [], ◌∷◌, ◌++◌, map, length, slice_get, Option, Some, None, is_some, Result, Ok, Err, All, refl, sym, ap, ap₂, ◌∙◌, subst, arith, append_assoc, length-append, append-nil}
 use Rattle.std.specs.List.{list_all}
-use Rattle.std.proofs.lemmas.Bool.{and_parts, and_from, eqb-true, le-leb, lt-ltb, leb-true}
+use Rattle.std.proofs.lemmas.Bool.{and_parts, and_from, le-leb, lt-ltb, leb-true}
 use Rattle.std.proofs.lemmas.Bool.Decides.{nat_tests}
 use Rattle.std.proofs.lemmas.List.Elements.{All-head, All-tail}
 use Rattle.std.proofs.lemmas.List.{map-append}
@@ -9,44 +9,42 @@ use Rattle.fm_gfp.specs.Primes.{prime_value}
 use Rattle.fm_gfp.specs.declared.prime.Prime.{Prime}
 use Rattle.fm_gfp.proofs.Residues.{prime_of_value}
 use Rattle.fm_poly.specs.Polys.{PolyValue, IsCanonical, pairs}
-use Rattle.fm_poly.specs.Texts.{AreNames, AreWithinBound, poly_text}
+use Rattle.fm_words.specs.Words.{AreNames, is_name, same_bytes}
+use Rattle.fm_poly.specs.Bounds.{AreWithinBound}
+use Rattle.fm_text.specs.Texts.{poly_text}
 use Rattle.fm_poly.specs.declared.ring.Ring.{Ring}
 use Rattle.fm_poly.specs.declared.term.Term.{Term}
-use Rattle.fm_poly.proofs.PrintedFactors.{same_refl}
+use Rattle.fm_text.proofs.PrintedFactors.{same_refl}
 use Rattle.fm_words.specs.Parts.{Bytes, parts}
-use Rattle.fm_words.specs.Words.{is_name, same_bytes}
 use Rattle.fm_words.specs.declared.mark.Mark.TheVariants.{Star}
 use Rattle.fm_problem.specs.declared.fault_kind.FaultKind.{FaultKind}
 use Rattle.fm_problem.specs.declared.fault_kind.FaultKind.TheVariants.{UnknownName, Repeated, Range, NotPrime, Limit}
-use Rattle.fm_problem.specs.declared.limits.TheConstants.{VARIABLES, NAME_BYTES, IDEALS, GENERATORS, STAGE, WRITTEN_EXPONENT}
+use Rattle.fm_problem.specs.Limits.{most_variables, longest_name, most_ideals, most_generators, greatest_stage, greatest_exponent}
 use Rattle.fm_problem.specs.declared.ideal.Ideal.{Ideal}
 use Rattle.fm_problem.specs.declared.problem.Problem.{Problem}
 use Rattle.fm_problem.specs.declared.query.Query.{Query}
 use Rattle.fm_problem.specs.declared.query.Query as queries
-use Rattle.fm_problem.specs.Steps.{◌>>=◌, steps, or_fault, place}
-use Rattle.fm_problem.specs.Factors.{Factor, SignedText, factor_of, terms_of, is_term}
-use Rattle.fm_problem.specs.Certificates.{is_sound_factor, is_sound_term}
-use Rattle.fm_problem.specs.Polynomials.{Rules, polynomial_in}
+use Rattle.fm_words.specs.Steps.{◌>>=◌, steps, or_fault, place}
+use Rattle.fm_text.specs.Factors.{Factor, SignedText, factor_of, terms_of, is_term}
+use Rattle.fm_text.specs.Certificates.{is_sound_factor, is_sound_term}
+use Rattle.fm_text.specs.Polynomials.{Rules}
+use Rattle.fm_problem.specs.Problems.{polynomial_in, plus_name, bare, ring_of, rules_of, Generators, unless_empty, unless_zero, plus_generator, generators_in, ideal_names, plus_ideal, with_ideal, degree_in, ideal_in, stage_in, plus_entry, vector_in, module_query, asked}
+use Rattle.fm_problem.specs.Faults.{on_line}
 use Rattle.fm_problem.specs.Statements.{RingLine, ModuleLine}
-use Rattle.fm_problem.specs.Problems.{plus_name, bare, ring_of, rules_of, Generators, unless_empty, unless_zero, plus_generator, generators_in, ideal_names, plus_ideal, with_ideal, degree_in, ideal_in, stage_in, plus_entry, vector_in, module_query, asked}
-use Rattle.fm_problem.specs.Sound.{IsPolynomialOf, IsShortName, IsAbsent, AreApart, IsIdealOf, IsQueryOf, IsProblem, are_small, AreSmallTerms, AreSmall, IsSmallQuery, HasSmallExponents}
+use Rattle.fm_text.specs.SumOfTerms.{IsPolynomialOf}
+use Rattle.fm_problem.specs.Sound.{IsShortName, IsAbsent, AreApart, IsIdealOf, IsQueryOf, IsProblem, are_small, AreSmallTerms, AreSmall, IsSmallQuery, HasSmallExponents}
 use Rattle.fm_problem.proofs.PrintedNames.{variables_are_names}
 use Rattle.fm_mono.specs.Bounded.{exponent_bound, is_bounded}
 use Rattle.fm_problem.specs.declared.keyword.Question.{Question}
 use Rattle.fm_problem.specs.declared.keyword.Question as questions
 use Rattle.fm_cert.specs.Writable.{is_poly_byte, is_spelled, is_word, IsWritablePolynomial, IsWritableStatement}
-use Rattle.fm_cert.proofs.Bytes.{is_plain, all_weaker}
+use Rattle.fm_text.proofs.Bytes.{is_plain, all_weaker}
 use Rattle.fm_cert.proofs.WordsRead.{polynomial_is_word}
-use Rattle.fm_cert.proofs.PolynomialsRead.{AreAtMost, TermsAtMost, polynomial_spelled, sound_poly, plain_poly}
-use Rattle.fm_report.specs.Reports.{generator_texts, name_of, name_at, text_of, question_line, begun}
+use Rattle.fm_text.proofs.PolynomialsRead.{AreAtMost, TermsAtMost, same_name, polynomial_spelled, sound_poly, plain_poly}
+use Rattle.fm_cert.specs.Questions.{generator_texts, name_of, name_at, text_of, question_line}
+use Rattle.fm_report.specs.Reports.{begun}
 
 -- ---- names
-same_name : (m n : Bytes) → same_bytes m n ≡ true → m ≡ n
-same_name [] [] h = refl
-same_name [] (c ∷ n) h = absurd (let e : false ≡ true = h in cc)
-same_name (b ∷ m) [] h = absurd (let e : false ≡ true = h in cc)
-same_name (b ∷ m) (c ∷ n) h = ap₂ (λ x y. x ∷ y) (eqb-true b c (and_parts _ _ h).0) (same_name m n (and_parts _ _ h).1)
-
 other : (o m : Bytes) → m ≢ o → same_bytes o m ≡ false
 other o m n = by (same_bytes o m) refl
   where
@@ -67,34 +65,34 @@ not_placed k (o ∷ front) m back a =
 grown : (front : List Bytes) (m : Bytes) (ms : List Bytes) → (front ++ m ∷ []) ++ ms ≡ front ++ m ∷ ms
 grown front m ms = append_assoc front (m ∷ []) ms
 
-name_added : (front : List Bytes) (m : Bytes) (back : List Bytes) → AreApart (front ++ m ∷ back) → IsShortName m → length (front ++ m ∷ back) ≤ VARIABLES → plus_name front m ≡ Ok (front ++ m ∷ [])
+name_added : (front : List Bytes) (m : Bytes) (back : List Bytes) → AreApart (front ++ m ∷ back) → IsShortName m → length (front ++ m ∷ back) ≤ most_variables → plus_name front m ≡ Ok (front ++ m ∷ [])
 name_added front m back a s few =
-    ap (λ o. if is_some o then Err Repeated else (if nat_lt (length front) VARIABLES && nat_le (length m) NAME_BYTES then Ok (front ++ m ∷ []) else Err Limit)) (not_placed 0 front m back a)
-    ∙ ap (λ (t : Bool). if t then Ok (front ++ m ∷ []) else Err Limit) (and_from _ _ (lt-ltb (length front) VARIABLES (omega (arith, few, length-append front (m ∷ back)))) (le-leb (length m) NAME_BYTES s.short))
+    ap (λ o. if is_some o then Err Repeated else (if nat_lt (length front) most_variables && nat_le (length m) longest_name then Ok (front ++ m ∷ []) else Err Limit)) (not_placed 0 front m back a)
+    ∙ ap (λ (t : Bool). if t then Ok (front ++ m ∷ []) else Err Limit) (and_from _ _ (lt-ltb (length front) most_variables (omega (arith, few, length-append front (m ∷ back)))) (le-leb (length m) longest_name s.short))
 
-names_added : (front back : List Bytes) → AreApart (front ++ back) → All IsShortName back → length (front ++ back) ≤ VARIABLES → steps plus_name front back ≡ Ok (front ++ back)
+names_added : (front back : List Bytes) → AreApart (front ++ back) → All IsShortName back → length (front ++ back) ≤ most_variables → steps plus_name front back ≡ Ok (front ++ back)
 names_added front [] a s few = ap Ok (sym (append-nil front))
 names_added front (m ∷ ms) a s few =
     ap (λ r. r >>= λ vs. steps plus_name vs ms) (name_added front m ms a (All-head IsShortName m ms s) few)
-    ∙ names_added (front ++ m ∷ []) ms (subst AreApart (sym (grown front m ms)) a) (All-tail IsShortName m ms s) (subst (λ vs. length vs ≤ VARIABLES) (sym (grown front m ms)) few)
+    ∙ names_added (front ++ m ∷ []) ms (subst AreApart (sym (grown front m ms)) a) (All-tail IsShortName m ms s) (subst (λ vs. length vs ≤ most_variables) (sym (grown front m ms)) few)
     ∙ ap Ok (grown front m ms)
 
-pub ring_read : (p : Prime) (vs : List Bytes) → AreApart vs → All IsShortName vs → length vs ≤ VARIABLES → ring_of (Some (RingLine (prime_value p) vs)) ≡ Ok (bare p vs)
+pub ring_read : (p : Prime) (vs : List Bytes) → AreApart vs → All IsShortName vs → length vs ≤ most_variables → ring_of (Some (RingLine (prime_value p) vs)) ≡ Ok (bare p vs)
 ring_read p vs a s few =
     ap (λ o. or_fault NotPrime o >>= λ x. (steps plus_name [] vs >>= λ us. Ok (bare x us))) (prime_of_value p) ∙ ap (λ r. r >>= λ us. Ok (bare p us)) (names_added [] vs a s few)
 
 -- ---- polynomials
-low_exponents : (es : List ℕ) → are_small es ≡ true → AreAtMost WRITTEN_EXPONENT es
+low_exponents : (es : List ℕ) → are_small es ≡ true → AreAtMost greatest_exponent es
 low_exponents [] h = tt
-low_exponents (e ∷ es) h = (leb-true e WRITTEN_EXPONENT (and_parts _ _ h).0, low_exponents es (and_parts _ _ h).1)
+low_exponents (e ∷ es) h = (leb-true e greatest_exponent (and_parts _ _ h).0, low_exponents es (and_parts _ _ h).1)
 
-pub low_terms : (ts : List Term) → AreSmallTerms ts → TermsAtMost WRITTEN_EXPONENT ts
+pub low_terms : (ts : List Term) → AreSmallTerms ts → TermsAtMost greatest_exponent ts
 low_terms [] h = tt
 low_terms (t ∷ ts) h = (low_exponents t.mono h.0, low_terms ts h.1)
 
 module _ (r : Ring) (vs : List Bytes) (h : AreNames vs) (l : length vs ≡ r.vars) where
   abbrev rules : Rules
-  rules = record { ring = r; names = vs; bound = WRITTEN_EXPONENT }
+  rules = record { ring = r; names = vs; bound = greatest_exponent }
 
   abbrev text : PolyValue → Bytes
   text f = poly_text vs (pairs f.terms)
@@ -102,14 +100,14 @@ module _ (r : Ring) (vs : List Bytes) (h : AreNames vs) (l : length vs ≡ r.var
   pub spelled : (f : PolyValue) → IsPolynomialOf r f → AreSmallTerms f.terms → polynomial_in rules (text f) ≡ Ok f
   unfolding AreNames
   spelled f s small =
-      polynomial_spelled rules h f.terms (let P : Ring → Type 0 = λ x. IsCanonical r f.terms in s.canonical) l (low_terms f.terms small) (omega arith) ∙ ap (λ x. Ok (record { ring = x; terms = f.terms })) (sym s.of_ring)
+      ap on_line (polynomial_spelled rules h f.terms (let P : Ring → Type 0 = λ x. IsCanonical r f.terms in s.canonical) l (low_terms f.terms small) (omega arith)) ∙ ap (λ x. Ok (record { ring = x; terms = f.terms })) (sym s.of_ring)
 
   empty_canonical : IsCanonical r []
   empty_canonical = record { listed = tt; falls = tt }
 
   zero_spelled : polynomial_in rules (poly_text vs []) ≡ Ok (record { ring = r; terms = [] })
   unfolding AreNames
-  zero_spelled = polynomial_spelled rules h [] empty_canonical l tt (omega arith)
+  zero_spelled = ap on_line (polynomial_spelled rules h [] empty_canonical l tt (omega arith))
 
   -- a blank before the text changes nothing
   after_blank : (t : Bytes) → polynomial_in rules (32 ∷ t) ≡ polynomial_in rules t
@@ -119,12 +117,12 @@ module _ (r : Ring) (vs : List Bytes) (h : AreNames vs) (l : length vs ≡ r.var
   kept_more kept f [] n = absurd (n refl)
   kept_more kept f (t ∷ ts) n = refl
 
-  generators_added : (front fs : List PolyValue) → All (IsPolynomialOf r) fs → All (λ (f : PolyValue). f.terms ≢ []) fs → AreSmall fs → length front + length fs ≤ GENERATORS
+  generators_added : (front fs : List PolyValue) → All (IsPolynomialOf r) fs → All (λ (f : PolyValue). f.terms ≢ []) fs → AreSmall fs → length front + length fs ≤ most_generators
       → steps (plus_generator rules) (record { written = length front; kept = front }) (map (λ (g : PolyValue). 32 ∷ text g) fs) ≡ Ok (record { written = length front + length fs; kept = front ++ fs })
   generators_added front [] s n small few = ap₂ (λ w k. Ok (record { written = w; kept = k })) (omega arith) (sym (append-nil front))
   generators_added front (f ∷ fs) s n small few =
       let one : plus_generator rules (record { written = length front; kept = front }) (32 ∷ text f) ≡ Ok (record { written = length (front ++ f ∷ []); kept = front ++ f ∷ [] }) =
-      ap (λ (t : Bool). if t then (polynomial_in rules (32 ∷ text f) >>= λ g. Ok (record { written = length front + 1; kept = unless_zero front g })) else Err Limit) (lt-ltb (length front) GENERATORS (omega (arith, few)))
+      ap (λ (t : Bool). if t then (polynomial_in rules (32 ∷ text f) >>= λ g. Ok (record { written = length front + 1; kept = unless_zero front g })) else Err Limit) (lt-ltb (length front) most_generators (omega (arith, few)))
       ∙ ap (λ x. x >>= λ g. Ok (record { written = length front + 1; kept = unless_zero front g })) (spelled f (All-head (IsPolynomialOf r) f fs s) small.0)
       ∙ ap₂ (λ w k. Ok (record { written = w; kept = k })) (sym (length-append front (f ∷ []))) (kept_more front f f.terms (All-head (λ (g : PolyValue). g.terms ≢ []) f fs n)) in
       ap (λ x. x >>= λ t. steps (plus_generator rules) t (map (λ (g : PolyValue). 32 ∷ text g) fs)) one
@@ -136,7 +134,7 @@ module _ (r : Ring) (vs : List Bytes) (h : AreNames vs) (l : length vs ≡ r.var
       let add : Result PolyValue FaultKind → Result Generators FaultKind = λ x. x >>= λ f. Ok (record { written = 1; kept = unless_zero [] f }) in
       ap add zero_spelled
 
-  pub generators_read : (fs : List PolyValue) → All (IsPolynomialOf r) fs → All (λ (f : PolyValue). f.terms ≢ []) fs → AreSmall fs → length fs ≤ GENERATORS
+  pub generators_read : (fs : List PolyValue) → All (IsPolynomialOf r) fs → All (λ (f : PolyValue). f.terms ≢ []) fs → AreSmall fs → length fs ≤ most_generators
       → generators_in rules (generator_texts vs fs) ≡ Ok fs
   generators_read [] s n small few =
       let finish : Result Generators FaultKind → Result (List PolyValue) FaultKind = λ x. (x >>= λ t. steps (plus_generator rules) t []) >>= λ g. Ok g.kept in
@@ -191,9 +189,9 @@ module _ (r : Ring) (vs : List Bytes) (h : AreNames vs) (l : length vs ≡ r.var
 
   small_within : (es : List ℕ) → are_small es ≡ true → is_bounded es ≡ true
   small_within [] e = refl
-  small_within (x ∷ es) e = and_from _ _ (le-leb x exponent_bound (raise x (leb-true x WRITTEN_EXPONENT (and_parts _ _ e).0))) (small_within es (and_parts _ _ e).1)
+  small_within (x ∷ es) e = and_from _ _ (le-leb x exponent_bound (raise x (leb-true x greatest_exponent (and_parts _ _ e).0))) (small_within es (and_parts _ _ e).1)
     where
-      raise : (x : ℕ) → x ≤ WRITTEN_EXPONENT → x ≤ exponent_bound
+      raise : (x : ℕ) → x ≤ greatest_exponent → x ≤ exponent_bound
       raise x b = omega (arith, b)
 
   terms_within : (ts : List Term) → AreSmallTerms ts → AreWithinBound (pairs ts)
@@ -221,16 +219,16 @@ module _ (q : Problem) (sound : IsProblem q) (small : HasSmallExponents q) where
   pub ideal_read : (front back : List Ideal) (a : Ideal) → q.ideals ≡ front ++ a ∷ back → IsIdealOf q.ring a → AreSmall a.generators
       → with_ideal (begun q front) a.name (generator_texts q.vars a.generators) ≡ Ok (begun q (front ++ a ∷ []))
   ideal_read front back a is good low =
-      let few : length front < IDEALS = omega (arith, sound.bounded.few_ideals, ap length is, length-append front (a ∷ back)) in
+      let few : length front < most_ideals = omega (arith, sound.bounded.few_ideals, ap length is, length-append front (a ∷ back)) in
       let names_are : map (λ (x : Ideal). x.name) q.ideals ≡ map (λ (x : Ideal). x.name) front ++ a.name ∷ map (λ (x : Ideal). x.name) back =
       ap (map (λ (x : Ideal). x.name)) is ∙ map-append (λ (x : Ideal). x.name) front (a ∷ back) in
       let fresh : place 0 a.name (map (λ (x : Ideal). x.name) front) ≡ None =
       not_placed 0 (map (λ (x : Ideal). x.name) front) a.name (map (λ (x : Ideal). x.name) back) (subst AreApart names_are sound.ideals_apart) in
       let gens : Result (List PolyValue) FaultKind = generators_in (rules_of (begun q front)) (generator_texts q.vars a.generators) in
       ap (λ (t : Bool). if t then (if is_some (place 0 a.name (ideal_names (begun q front))) then Err Repeated
-      else (if nat_le (length a.name) NAME_BYTES then (gens >>= λ fs. Ok (plus_ideal (begun q front) a.name fs)) else Err Limit)) else Err Limit) (lt-ltb (length front) IDEALS few)
-      ∙ ap (λ o. if is_some o then Err Repeated else (if nat_le (length a.name) NAME_BYTES then (gens >>= λ fs. Ok (plus_ideal (begun q front) a.name fs)) else Err Limit)) fresh
-      ∙ ap (λ (t : Bool). if t then (gens >>= λ fs. Ok (plus_ideal (begun q front) a.name fs)) else Err Limit) (le-leb (length a.name) NAME_BYTES good.named.short)
+      else (if nat_le (length a.name) longest_name then (gens >>= λ fs. Ok (plus_ideal (begun q front) a.name fs)) else Err Limit)) else Err Limit) (lt-ltb (length front) most_ideals few)
+      ∙ ap (λ o. if is_some o then Err Repeated else (if nat_le (length a.name) longest_name then (gens >>= λ fs. Ok (plus_ideal (begun q front) a.name fs)) else Err Limit)) fresh
+      ∙ ap (λ (t : Bool). if t then (gens >>= λ fs. Ok (plus_ideal (begun q front) a.name fs)) else Err Limit) (le-leb (length a.name) longest_name good.named.short)
       ∙ ap (λ x. x >>= λ fs. Ok (plus_ideal (begun q front) a.name fs)) (generators_read q.ring q.vars named sound.bounded.named a.generators good.of_ring good.nonzero low good.few)
 
   -- ---- questions
@@ -282,8 +280,8 @@ module _ (q : Problem) (sound : IsProblem q) (small : HasSmallExponents q) where
   degree_read : (i : ℕ) → i ≤ q.ring.vars → degree_in without_queries i ≡ Ok i
   degree_read i b = ap (λ (t : Bool). if t then Ok i else Err Range) (le-leb i q.ring.vars b)
 
-  stage_read : (e : ℕ) → e ≤ STAGE → stage_in e ≡ Ok e
-  stage_read e b = ap (λ (t : Bool). if t then Ok e else Err Limit) (le-leb e STAGE b)
+  stage_read : (e : ℕ) → e ≤ greatest_stage → stage_in e ≡ Ok e
+  stage_read e b = ap (λ (t : Bool). if t then Ok e else Err Limit) (le-leb e greatest_stage b)
 
   module_asked : (a : Question) (i k : ℕ) → i ≤ q.ring.vars → k < length q.ideals → asked without_queries (ModuleLine a i (name_at q k)) ≡ Ok (module_query a i k)
   module_asked a i k b c =
@@ -316,7 +314,7 @@ module _ (q : Problem) (sound : IsProblem q) (small : HasSmallExponents q) where
   small_degree : (i : ℕ) → i ≤ q.ring.vars → i < 2 ^ 64
   small_degree i b = let few = sound.bounded.few in omega (arith, b, few)
 
-  small_stage : (e : ℕ) → e ≤ STAGE → e < 2 ^ 64
+  small_stage : (e : ℕ) → e ≤ greatest_stage → e < 2 ^ 64
   small_stage e b = omega (arith, b)
 
   -- and it can be written

@@ -1,24 +1,27 @@
 -- Lines that name matrices are said.
-use Rattle.std.proofs.Common.{◌≡◌, ℕ, zero, suc, ◌+◌, ◌^◌, ◌<◌, Bool, true, false, if◌then◌else◌, List, [], ◌∷◌, ◌++◌, map, length, Option, Some, None, option_map, refl, sym, ap, ap₂, ◌∙◌, subst, arith, append_assoc, append-nil, length-append}
+use Rattle.std.proofs.Common.{◌≡◌, ℕ, zero, suc, ◌+◌, ◌^◌, ◌<◌, ◌≤◌, Bool, nat_eq, true, false, if◌then◌else◌, List, [], ◌∷◌, ◌++◌, map, length, Option, Some, None, option_map, refl, sym, ap, ap₂, ◌∙◌, subst, arith, append_assoc, append-nil, length-append}
 use Rattle.std.specs.Prelude.{decimal}
-use Rattle.std.proofs.lemmas.Bool.{and_parts, eq-eqb, eqb-true, ne_eqb}
+use Rattle.std.proofs.lemmas.Bool.{and_parts, eq-eqb, eqb-true, ne_eqb, lt-ltb}
 use Rattle.std.proofs.lemmas.List.{length-map, map-append}
 use lib.Pointwise.{pointwise}
 use Rattle.fm_algebra.specs.Poly.{None≢Some, Some-same}
-use Rattle.fm_poly.specs.Texts.{AreNames, where_so}
+use Rattle.fm_words.specs.Words.{AreNames, same_bytes}
+use Rattle.fm_words.specs.Options.{◌>>=◌, where_so}
 use Rattle.fm_words.specs.Parts.{Bytes}
-use Rattle.fm_words.specs.Words.{same_bytes}
 use Rattle.fm_problem.specs.declared.problem.Problem.{Problem}
+use Rattle.fm_poly.specs.Polys.{PolyValue}
 use Rattle.fm_problem.specs.declared.query.Query.{Query}
+use Rattle.fm_problem.specs.declared.query.Query as queries
 use Rattle.fm_cert.specs.Fields.{number, columns, Item, field, Values, read_row, vector_word}
 use Rattle.fm_cert.specs.Kinds as kinds
 use Rattle.fm_cert.specs.Lines.{Line, Row, line_text}
-use Rattle.fm_cert.specs.Naming.{Grid, grid_words, number_after, Naming, part_line, named, naming_lines, differentials, lifts}
+use Rattle.fm_cert.specs.Naming.{Grid, grid_words, number_after, Naming, part_line, named, naming_lines, forms_with, forms_after, differentials, lifts, cocycles_naming, relations_naming, morphism_naming, kernels, identities, map_naming}
 use Rattle.fm_cert.specs.Writable.{AreWritableVectors, IsWritableLine}
 use Rattle.fm_cert.proofs.RowsRead.{row_read}
 use Rattle.fm_report.specs.Parts.{Part, given}
-use Rattle.fm_report.specs.Sheets.{Block, Answer, Sheet, numbered, say}
+use Rattle.fm_report.specs.Sheets.{Block, Answer, Sheet, numbered, say_named, add_differential, add_lift, add_cocycles, add_kernel, add_morphism, say}
 use Rattle.fm_report.specs.Reading.{stated_by, sheet_after}
+use Rattle.fm_report.proofs.Written.{says_append, after_append, writable_append}
 use Rattle.fm_report.specs.Reports.{says, after, IsWritableAfter, AreWritable, begun}
 
 -- ---- equal words
@@ -39,6 +42,12 @@ given_of g = given g.rows g.columns
 
 abbrev pub parts_of : List Grid → List Part
 parts_of gs = map given_of gs
+
+-- what the lines under an answer have laid down: the finished blocks, the block at hand, and the lift of the identity
+pub record Laid : Type 0 where
+  pub finished : List Block
+  pub block : Option Block
+  pub identity : List Part
 
 module _ (q : Problem) (h : AreNames q.vars) (l : length q.vars ≡ q.ring.vars) where
   -- a matrix that can be printed
@@ -120,53 +129,101 @@ module _ (q : Problem) (h : AreNames q.vars) (l : length q.vars ≡ q.ring.vars)
 
   -- ---- lines, under the answer to query k
   module _ (k : ℕ) (z : Query) (a : Answer) where
-    unfoldable pub under : List Part → Block → Sheet
-    under ps b = record { head = Some (begun q q.ideals); count = k; asked = Some z; answer = Some a; parts = ps; finished = []; block = Some b; identity = [] }
+    unfoldable pub under : List Part → Laid → Sheet
+    under ps d = record {
+      head = Some (begun q q.ideals);
+      count = k;
+      asked = Some z;
+      answer = Some a;
+      parts = ps;
+      finished = d.finished;
+      block = d.block;
+      identity = d.identity;
+    }
 
-    line_writable : (ps : List Part) (b : Block) (x : Line) (t : Sheet) → line_text q.vars x ≡ line_text q.vars x → IsWritableLine q.ring (Some z) x → say (under ps b) x ≡ Some t → IsWritableAfter q.vars (under ps b) x
+    -- a line that can be written leads from one sheet to another, and states nothing
+    record Step (s t : Sheet) (x : Line) : Type 0 where
+      after : IsWritableAfter q.vars s x
+      said : say s x ≡ Some t
+      quiet : stated_by s x ≡ []
+
+    step : (ps : List Part) (d : Laid) (t : Sheet) (x : Line) → IsWritableLine q.ring (Some z) x → say (under ps d) x ≡ Some t → stated_by (under ps d) x ≡ [] → Step (under ps d) t x
     unfolding under
-    line_writable ps b x t same w e = record { named = h; listed = l; printed = same; writable = w; next = t; said = e }
+    step ps d t x w e n = record { after = record { named = h; listed = l; printed = refl; writable = w; next = t; said = e }; said = e; quiet = n }
 
-    -- a line that puts its matrix into the block
-    pub record Puts (x : Naming) (b c : Block) : Type 0 where
-      pub said : (ps : List Part) (n : ℕ) → numbered ps n ≡ Some (given_of x.grid) → say (under ps b) (x.line n) ≡ Some (under ps c)
+    -- a line that lays its matrix down
+    pub record Puts (x : Naming) (c d : Laid) : Type 0 where
+      pub said : (ps : List Part) (n : ℕ) → numbered ps n ≡ Some (given_of x.grid) → say (under ps c) (x.line n) ≡ Some (under ps d)
       pub writable : (n : ℕ) → n < 2 ^ 64 → IsWritableLine q.ring (Some z) (x.line n)
       pub quiet : (s : Sheet) (n : ℕ) → stated_by s (x.line n) ≡ []
 
-    abbrev pub AllPut : List Naming → Block → Block → Type 0
-    AllPut [] b c = b ≡ c
-    AllPut (x ∷ xs) b c = (d : Block) × Puts x b d × AllPut xs d c
+    abbrev pub AllPut : List Naming → Laid → Laid → Type 0
+    AllPut [] c d = c ≡ d
+    AllPut (x ∷ xs) c d = (e : Laid) × Puts x c e × AllPut xs e d
 
-    -- the lines lead from one block to another and state nothing
-    pub record Leads (ps : List Part) (b : Block) (ls : List Line) (c : Block) : Type 0 where
-      pub parts : List Part
-      pub writable : AreWritable q.vars (under ps b) ls
-      pub ends : after (under ps b) ls ≡ under parts c
-      pub silent : says (under ps b) ls ≡ []
+    pub puts_append : (xs ys : List Naming) (c d e : Laid) → AllPut xs c d → AllPut ys d e → AllPut (xs ++ ys) c e
+    puts_append [] ys c d e p r = subst (λ x. AllPut ys x e) (sym p) r
+    puts_append (x ∷ xs) ys c d e (m, put, rest) r = (m, put, puts_append xs ys m d e rest r)
 
-    onward : (ps : List Part) (b d c : Block) (x : Line) (ls : List Line) (rs : List Part) → IsWritableAfter q.vars (under ps b) x → say (under ps b) x ≡ Some (under rs d) → stated_by (under ps b) x ≡ [] → Leads rs d ls c
-        → Leads ps b (x ∷ ls) c
-    onward ps b d c x ls rs w e n r = record {
-      parts = r.parts;
-      writable = (w, subst (λ o. AreWritable q.vars (sheet_after (under ps b) o) ls) (sym e) r.writable);
-      ends = ap (λ o. after (sheet_after (under ps b) o) ls) e ∙ r.ends;
-      silent = ap₂ (λ u o. u ++ says (sheet_after (under ps b) o) ls) n e ∙ r.silent;
+    -- The lines lead from what is laid down to more, and state nothing. Before them the parts are the matrices gs, and after them hs.
+    pub record Leads (gs : List Grid) (c : Laid) (ls : List Line) (hs : List Grid) (d : Laid) : Type 0 where
+      pub good : AllGood hs
+      pub writable : AreWritable q.vars (under (parts_of gs) c) ls
+      pub ends : after (under (parts_of gs) c) ls ≡ under (parts_of hs) d
+      pub silent : says (under (parts_of gs) c) ls ≡ []
+
+    onward : (gs es hs : List Grid) (c e d : Laid) (x : Line) (ls : List Line) → Step (under (parts_of gs) c) (under (parts_of es) e) x → Leads es e ls hs d → Leads gs c (x ∷ ls) hs d
+    onward gs es hs c e d x ls s r = record {
+      good = r.good;
+      writable = (s.after, subst (λ o. AreWritable q.vars (sheet_after (under (parts_of gs) c) o) ls) (sym s.said) r.writable);
+      ends = ap (λ o. after (sheet_after (under (parts_of gs) c) o) ls) s.said ∙ r.ends;
+      silent = ap₂ (λ u o. u ++ says (sheet_after (under (parts_of gs) c) o) ls) s.quiet s.said ∙ r.silent;
     }
 
-    part_said : (ps : List Part) (b : Block) (g : Grid) (n : ℕ) → n ≡ length ps + 1 → say (under ps b) (part_line n g) ≡ Some (under (ps ++ given_of g ∷ []) b)
+    leads_nowhere : (gs : List Grid) (c : Laid) → AllGood gs → Leads gs c [] gs c
+    leads_nowhere gs c v = record { good = v; writable = tt; ends = refl; silent = refl }
+
+    pub leads_append : (gs es hs : List Grid) (c e d : Laid) (ls ms : List Line) → Leads gs c ls es e → Leads es e ms hs d → Leads gs c (ls ++ ms) hs d
+    leads_append gs es hs c e d ls ms f r = record {
+      good = r.good;
+      writable = writable_append q.vars (under (parts_of gs) c) ls ms f.writable (subst (λ s. AreWritable q.vars s ms) (sym f.ends) r.writable);
+      ends = after_append (under (parts_of gs) c) ls ms ∙ ap (λ s. after s ms) f.ends ∙ r.ends;
+      silent = says_append (under (parts_of gs) c) ls ms ∙ ap₂ (λ u s. u ++ says s ms) f.silent f.ends ∙ r.silent;
+    }
+
+    -- a line without a matrix
+    pub plain_leads : (gs : List Grid) (c d : Laid) (x : Line) → AllGood gs → IsWritableLine q.ring (Some z) x → ((ps : List Part) → say (under ps c) x ≡ Some (under ps d))
+        → ((s : Sheet) → stated_by s x ≡ []) → Leads gs c (x ∷ []) gs d
+    plain_leads gs c d x v w e n = onward gs gs gs c d d x [] (step (parts_of gs) c (under (parts_of gs) d) x w (e (parts_of gs)) (n (under (parts_of gs) c))) (leads_nowhere gs d v)
+
+    -- ---- lines that name matrices
+    part_said : (ps : List Part) (c : Laid) (g : Grid) (n : ℕ) → n ≡ length ps + 1 → say (under ps c) (part_line n g) ≡ Some (under (ps ++ given_of g ∷ []) c)
     unfolding under say
-    part_said ps b g n e = ap (λ (t : Bool). where_so t (Some (record (under ps b) { parts = ps ++ given_of g ∷ [] }))) (eq-eqb n (suc (length ps)) (omega (arith, e)))
+    part_said ps c g n e = ap (λ (t : Bool). where_so t (Some (record (under ps c) { parts = ps ++ given_of g ∷ [] }))) (eq-eqb n (suc (length ps)) (omega (arith, e)))
 
     grown : (gs : List Grid) (g : Grid) → AllGood gs → IsGood g → AllGood (gs ++ g ∷ [])
     grown [] g v w = (w, tt)
     grown (f ∷ gs) g v w = (v.0, grown gs g v.1 w)
 
-    pub names_said : (gs : List Grid) (xs : List Naming) (b c : Block) → AllGood gs → GridsGood xs → length gs + length xs + 1 < 2 ^ 64 → AllPut xs b c
-        → Leads (parts_of gs) b (naming_lines q.vars xs (map (grid_words q.vars) gs)) c
-    names_said gs [] b c v w few p = record { parts = parts_of gs; writable = tt; ends = ap (under (parts_of gs)) p; silent = refl }
-    names_said gs (x ∷ xs) b c v w few (d, put, rest) =
-        by (number_after zero (map (grid_words q.vars) gs) (grid_words q.vars x.grid)) refl
-        (names_said gs xs d c v w.1 (omega (arith, few)) rest) (names_said (gs ++ x.grid ∷ []) xs d c (grown gs x.grid v w.0) w.1 (omega (arith, few, length-append gs (x.grid ∷ []))) rest)
+    -- the lines lead there, and these forms have numbers afterwards
+    pub record NamesIn (gs : List Grid) (ls : List Line) (fs : List (List Bytes)) (most : ℕ) (c d : Laid) : Type 0 where
+      pub grids : List Grid
+      pub leads : Leads gs c ls grids d
+      pub forms : fs ≡ map (grid_words q.vars) grids
+      pub few : length grids ≤ most
+
+    abbrev pub Names : List Grid → List Naming → Laid → Laid → Type 0
+    Names gs xs c d = NamesIn gs (naming_lines q.vars xs (map (grid_words q.vars) gs)) (forms_after q.vars xs (map (grid_words q.vars) gs)) (length gs + length xs) c d
+
+    -- one more line before them
+    onward_in : (gs hs : List Grid) (c e d : Laid) (x : Line) (ls : List Line) (fs : List (List Bytes)) (most more : ℕ) → most ≤ more → Step (under (parts_of gs) c) (under (parts_of hs) e) x → NamesIn hs ls fs most e d
+        → NamesIn gs (x ∷ ls) fs more c d
+    onward_in gs hs c e d x ls fs most more h s n = record { grids = n.grids; leads = onward gs hs n.grids c e d x ls s n.leads; forms = n.forms; few = let less = n.few in omega (arith, h, less) }
+
+    pub names_said : (gs : List Grid) (xs : List Naming) (c d : Laid) → AllGood gs → GridsGood xs → length gs + length xs + 1 < 2 ^ 64 → AllPut xs c d → Names gs xs c d
+    names_said gs [] c d v w few p = subst (λ x. NamesIn gs [] (map (grid_words q.vars) gs) (length gs + 0) c x) p (record { grids = gs; leads = leads_nowhere gs c v; forms = refl; few = omega arith })
+    names_said gs (x ∷ xs) c d v w few (e, put, rest) = by (number_after zero (map (grid_words q.vars) gs) (grid_words q.vars x.grid)) refl
+        (names_said gs xs e d v w.1 (omega (arith, few)) rest) (names_said (gs ++ x.grid ∷ []) xs e d (grown gs x.grid v w.0) w.1 (omega (arith, few, length-append gs (x.grid ∷ []))) rest)
       where
         forms : List (List Bytes)
         forms = map (grid_words q.vars) gs
@@ -183,66 +240,159 @@ module _ (q : Problem) (h : AreNames q.vars) (l : length q.vars ≡ q.ring.vars)
         number_small : length (map (grid_words q.vars) gs) + 1 < 2 ^ 64
         number_small = let n = length-map gs (grid_words q.vars) in omega (arith, few, n)
 
-        by : (o : Option ℕ) → number_after zero (map (grid_words q.vars) gs) (grid_words q.vars x.grid) ≡ o → Leads (parts_of gs) d (naming_lines q.vars xs (map (grid_words q.vars) gs)) c
-            → Leads (parts_of (gs ++ x.grid ∷ [])) d (naming_lines q.vars xs (map (grid_words q.vars) (gs ++ x.grid ∷ []))) c
-            → Leads (parts_of gs) b (named q.vars o x (map (grid_words q.vars) gs) (naming_lines q.vars xs)) c
-        by (Some n) e known fresh =
-            let f = number_found zero n gs x.grid v w.0 e in
+        by : (o : Option ℕ) → number_after zero (map (grid_words q.vars) gs) (grid_words q.vars x.grid) ≡ o → Names gs xs e d → Names (gs ++ x.grid ∷ []) xs e d
+            → NamesIn gs (named q.vars o x (map (grid_words q.vars) gs) (naming_lines q.vars xs)) (forms_after q.vars xs (forms_with o (map (grid_words q.vars) gs) (grid_words q.vars x.grid))) (length gs + suc (length xs)) c d
+        by (Some n) is known fresh =
+            let f = number_found zero n gs x.grid v w.0 is in
             let here : numbered (parts_of gs) n ≡ Some (given_of x.grid) = ap (numbered (parts_of gs)) (f.counts ∙ nothing (suc f.spot)) ∙ f.part in
             let small : n < 2 ^ 64 = let c = f.counts in let i = f.within in let m = length-map gs given_of in omega (arith, few, c, i, m) in
-            onward (parts_of gs) b d c (x.line n) (naming_lines q.vars xs (map (grid_words q.vars) gs)) (parts_of gs)
-            (line_writable (parts_of gs) b (x.line n) (under (parts_of gs) d) refl (put.writable n small) (put.said (parts_of gs) n here)) (put.said (parts_of gs) n here) (put.quiet (under (parts_of gs) b) n) known
-        by None e known fresh =
+            let s = step (parts_of gs) c (under (parts_of gs) e) (x.line n) (put.writable n small) (put.said (parts_of gs) n here) (put.quiet (under (parts_of gs) c) n) in
+            onward_in gs gs c e d (x.line n) (naming_lines q.vars xs (map (grid_words q.vars) gs)) (forms_after q.vars xs (map (grid_words q.vars) gs)) (length gs + length xs) (length gs + suc (length xs)) (omega arith) s known
+        by None is known fresh =
+            let hs = gs ++ x.grid ∷ [] in
             let n = length (map (grid_words q.vars) gs) + 1 in
-            let ps = parts_of gs ++ given_of x.grid ∷ [] in
-            let here : numbered ps n ≡ Some (given_of x.grid) = ap (numbered ps) forms_count ∙ last_part (parts_of gs) (given_of x.grid) in
-            let part = part_said (parts_of gs) b x.grid n forms_count in
-            let moved : Leads ps d (naming_lines q.vars xs (map (grid_words q.vars) gs ++ grid_words q.vars x.grid ∷ [])) c =
-            subst (λ fs. Leads ps d (naming_lines q.vars xs fs) c) forms_grown (subst (λ rs. Leads rs d (naming_lines q.vars xs (map (grid_words q.vars) (gs ++ x.grid ∷ []))) c) parts_grown fresh) in
-            onward (parts_of gs) b b c (part_line n x.grid) (x.line n ∷ naming_lines q.vars xs (map (grid_words q.vars) gs ++ grid_words q.vars x.grid ∷ [])) ps
-            (line_writable (parts_of gs) b (part_line n x.grid) (under ps b) refl (tt, (number_small, (w.0.rows, ((w.0.few, w.0.writable), tt)))) part) part refl
-            (onward ps b d c (x.line n) (naming_lines q.vars xs (map (grid_words q.vars) gs ++ grid_words q.vars x.grid ∷ [])) ps
-            (line_writable ps b (x.line n) (under ps d) refl (put.writable n number_small) (put.said ps n here)) (put.said ps n here) (put.quiet (under ps b) n) moved)
+            let here : numbered (parts_of hs) n ≡ Some (given_of x.grid) =
+            ap (λ ps. numbered ps n) parts_grown ∙ ap (numbered (parts_of gs ++ given_of x.grid ∷ [])) forms_count ∙ last_part (parts_of gs) (given_of x.grid) in
+            let part : say (under (parts_of gs) c) (part_line n x.grid) ≡ Some (under (parts_of hs) c) = part_said (parts_of gs) c x.grid n forms_count ∙ ap (λ ps. Some (under ps c)) (sym parts_grown) in
+            let more = map (grid_words q.vars) gs ++ grid_words q.vars x.grid ∷ [] in
+            let first = step (parts_of gs) c (under (parts_of hs) c) (part_line n x.grid) (tt, (number_small, (w.0.rows, ((w.0.few, w.0.writable), tt)))) part refl in
+            let second = step (parts_of hs) c (under (parts_of hs) e) (x.line n) (put.writable n number_small) (put.said (parts_of hs) n here) (put.quiet (under (parts_of hs) c) n) in
+            let later : NamesIn hs (naming_lines q.vars xs more) (forms_after q.vars xs more) (length hs + length xs) e d =
+            subst (λ fs. NamesIn hs (naming_lines q.vars xs fs) (forms_after q.vars xs fs) (length hs + length xs) e d) forms_grown fresh in
+            onward_in gs hs c c d (part_line n x.grid) (x.line n ∷ naming_lines q.vars xs more) (forms_after q.vars xs more) (length hs + length xs) (length gs + suc (length xs)) (omega (arith, length-append gs (x.grid ∷ []))) first
+            (onward_in hs hs c e d (x.line n) (naming_lines q.vars xs more) (forms_after q.vars xs more) (length hs + length xs) (length hs + length xs) (omega arith) second later)
 
-    -- ---- resolutions and lifts
-    d_puts : (j : ℕ) (g : Grid) (b : Block) → j ≡ suc (length b.differentials) → j < 2 ^ 64 → Puts (record { line = λ n. Row kinds.D (j, (n, tt)); grid = g }) b (record b { differentials = b.differentials ++ given_of g ∷ [] })
-    unfolding under say
-    d_puts j g b e small = record {
+    -- ---- matrices of the block at hand
+    named_puts : (c : Laid) (b : Block) (x : Naming) (wanted : Block → ℕ) (j : ℕ) (add : Block → Part → Block) → c.block ≡ Some b → j ≡ wanted b
+        → ((ps : List Part) (n : ℕ) → say (under ps c) (x.line n) ≡ say_named (under ps c) wanted j add n) → ((n : ℕ) → n < 2 ^ 64 → IsWritableLine q.ring (Some z) (x.line n))
+        → ((s : Sheet) (n : ℕ) → stated_by s (x.line n) ≡ []) → Puts x c (record c { block = Some (add b (given_of x.grid)) })
+    unfolding under
+    named_puts c b x wanted j add there e says w n = record {
       said = λ ps n here.
-          ap (λ (t : Bool). where_so t (option_map (λ x. record (under ps b) { block = Some (record b { differentials = b.differentials ++ x ∷ [] }) }) (numbered ps n))) (eq-eqb j (suc (length b.differentials)) e)
-          ∙ ap (option_map (λ x. record (under ps b) { block = Some (record b { differentials = b.differentials ++ x ∷ [] }) })) here;
+          says ps n ∙ ap (λ o. o >>= λ b. where_so (nat_eq j (wanted b)) (option_map (λ x. record (under ps c) { block = Some (add b x) }) (numbered ps n))) there
+          ∙ ap (λ (t : Bool). where_so t (option_map (λ x. record (under ps c) { block = Some (add b x) }) (numbered ps n))) (eq-eqb j (wanted b) e)
+          ∙ ap (option_map (λ x. record (under ps c) { block = Some (add b x) })) here;
+      writable = w;
+      quiet = n;
+    }
+
+    module _ (fs : List Block) (ids : List Part) where
+      abbrev pub at_block : Block → Laid
+      at_block b = record { finished = fs; block = Some b; identity = ids }
+
+      -- a line that names a matrix of the block
+      block_puts : (b : Block) (x : Naming) (wanted : Block → ℕ) (j : ℕ) (add : Block → Part → Block) → j ≡ wanted b
+          → ((ps : List Part) (n : ℕ) → say (under ps (at_block b)) (x.line n) ≡ say_named (under ps (at_block b)) wanted j add n) → ((n : ℕ) → n < 2 ^ 64 → IsWritableLine q.ring (Some z) (x.line n))
+          → ((s : Sheet) (n : ℕ) → stated_by s (x.line n) ≡ []) → Puts x (at_block b) (at_block (add b (given_of x.grid)))
+      block_puts b x wanted j add e says w n = named_puts (at_block b) b x wanted j add refl e says w n
+
+      differential_said : (j : ℕ) (b : Block) (ps : List Part) (n : ℕ)
+          → say (under ps (at_block b)) (Row kinds.D (j, (n, tt))) ≡ say_named (under ps (at_block b)) (λ b. suc (length b.differentials)) j add_differential n
+      unfolding under say
+      differential_said j b ps n = refl
+
+      pub differentials_put : (j : ℕ) (gs : List Grid) (b : Block) → j ≡ suc (length b.differentials) → j + length gs < 2 ^ 64
+          → AllPut (differentials j gs) (at_block b) (at_block (record b { differentials = b.differentials ++ parts_of gs }))
+      differentials_put j [] b e small = ap (λ x. at_block (record b { differentials = x })) (sym (append-nil b.differentials))
+      differentials_put j (g ∷ gs) b e small =
+          let d : Block = record b { differentials = b.differentials ++ given_of g ∷ [] } in (
+            at_block d,
+            block_puts b (record { line = λ n. Row kinds.D (j, (n, tt)); grid = g }) (λ b. suc (length b.differentials)) j add_differential e (differential_said j b) (λ n w. (tt, (omega (arith, small), (w, tt)))) (λ s n. refl),
+            subst (λ x. AllPut (differentials (suc j) gs) (at_block d) (at_block (record b { differentials = x }))) (append_assoc b.differentials (given_of g ∷ []) (parts_of gs))
+                (differentials_put (suc j) gs d (omega (arith, e, length-append b.differentials (given_of g ∷ []))) (omega (arith, small))),
+          )
+
+      lift_said : (j : ℕ) (b : Block) (ps : List Part) (n : ℕ) → say (under ps (at_block b)) (Row kinds.Theta (j, (n, tt))) ≡ say_named (under ps (at_block b)) (λ b. length b.lift) j add_lift n
+      unfolding under say
+      lift_said j b ps n = refl
+
+      pub lifts_put : (j : ℕ) (gs : List Grid) (b : Block) → j ≡ length b.lift → j + length gs < 2 ^ 64 → AllPut (lifts j gs) (at_block b) (at_block (record b { lift = b.lift ++ parts_of gs }))
+      lifts_put j [] b e small = ap (λ x. at_block (record b { lift = x })) (sym (append-nil b.lift))
+      lifts_put j (g ∷ gs) b e small =
+          let d : Block = record b { lift = b.lift ++ given_of g ∷ [] } in (
+            at_block d,
+            block_puts b (record { line = λ n. Row kinds.Theta (j, (n, tt)); grid = g }) (λ b. length b.lift) j add_lift e (lift_said j b) (λ n w. (tt, (omega (arith, small), (w, tt)))) (λ s n. refl),
+            subst (λ x. AllPut (lifts (suc j) gs) (at_block d) (at_block (record b { lift = x }))) (append_assoc b.lift (given_of g ∷ []) (parts_of gs))
+                (lifts_put (suc j) gs d (omega (arith, e, length-append b.lift (given_of g ∷ []))) (omega (arith, small))),
+          )
+
+      kernel_said : (j : ℕ) (b : Block) → 0 < j → (ps : List Part) (n : ℕ) → say (under ps (at_block b)) (Row kinds.K (j, (n, tt))) ≡ say_named (under ps (at_block b)) (λ b. length b.kernels) j add_kernel n
+      unfolding under say
+      kernel_said zero b h ps n = absurd (omega (arith, h))
+      kernel_said (suc j) b h ps n =
+          ap (λ (t : Bool). where_so t (say_named (under ps (at_block b)) (λ b. length b.kernels) (suc j) add_kernel n)) (lt-ltb 0 (suc j) (omega arith))
+
+      pub kernels_put : (j : ℕ) (gs : List Grid) (b : Block) → 0 < j → j ≡ length b.kernels → j + length gs < 2 ^ 64 → AllPut (kernels j gs) (at_block b) (at_block (record b { kernels = b.kernels ++ parts_of gs }))
+      kernels_put j [] b h e small = ap (λ x. at_block (record b { kernels = x })) (sym (append-nil b.kernels))
+      kernels_put j (g ∷ gs) b h e small =
+          let d : Block = record b { kernels = b.kernels ++ given_of g ∷ [] } in (
+            at_block d,
+            block_puts b (record { line = λ n. Row kinds.K (j, (n, tt)); grid = g }) (λ b. length b.kernels) j add_kernel e (kernel_said j b h) (λ n w. (tt, (omega (arith, small), (w, tt)))) (λ s n. refl),
+            subst (λ x. AllPut (kernels (suc j) gs) (at_block d) (at_block (record b { kernels = x }))) (append_assoc b.kernels (given_of g ∷ []) (parts_of gs))
+                (kernels_put (suc j) gs d (omega arith) (omega (arith, e, length-append b.kernels (given_of g ∷ []))) (omega (arith, small))),
+          )
+
+      single_said : (b : Block) (ps : List Part) (n : ℕ) → (say (under ps (at_block b)) (Row kinds.Z (n, tt)) ≡ say_named (under ps (at_block b)) (λ b. length b.cocycles) 0 add_cocycles n)
+          × (say (under ps (at_block b)) (Row kinds.N (n, tt)) ≡ say_named (under ps (at_block b)) (λ b. length b.kernels) 0 add_kernel n)
+          × (say (under ps (at_block b)) (Row kinds.U (n, tt)) ≡ say_named (under ps (at_block b)) (λ b. length b.morphism) 0 add_morphism n)
+      unfolding under say
+      single_said b ps n = (refl, refl, refl)
+
+      -- Z, N and U
+      pub presentation_put : (c n u : Grid) (b : Block) → b.cocycles ≡ [] → b.kernels ≡ [] → b.morphism ≡ [] → AllPut (cocycles_naming c ∷ relations_naming n ∷ morphism_naming u ∷ []) (at_block b)
+          (at_block (record b { cocycles = b.cocycles ++ given_of c ∷ []; kernels = b.kernels ++ given_of n ∷ []; morphism = b.morphism ++ given_of u ∷ [] }))
+      presentation_put c n u b no_c no_n no_u =
+          let b1 : Block = record b { cocycles = b.cocycles ++ given_of c ∷ [] } in
+          let b2 : Block = record b1 { kernels = b1.kernels ++ given_of n ∷ [] } in (
+            at_block b1,
+            block_puts b (cocycles_naming c) (λ b. length b.cocycles) 0 add_cocycles (sym (ap length no_c)) (λ ps n. (single_said b ps n).0) (λ n w. (tt, (w, tt))) (λ s n. refl),
+            (
+              at_block b2,
+              block_puts b1 (relations_naming n) (λ b. length b.kernels) 0 add_kernel (sym (ap length no_n)) (λ ps n. (single_said b1 ps n).1) (λ n w. (tt, (w, tt))) (λ s n. refl),
+              (
+                at_block (record b2 { morphism = b2.morphism ++ given_of u ∷ [] }),
+                block_puts b2 (morphism_naming u) (λ b. length b.morphism) 0 add_morphism (sym (ap length no_u)) (λ ps n. (single_said b2 ps n).2) (λ n w. (tt, (w, tt))) (λ s n. refl),
+                refl,
+              ),
+            ),
+          )
+
+      -- a matrix that nothing rests on
+      map_said : (c : Laid) (ps : List Part) (n : ℕ) → say (under ps c) (Row kinds.Phi (n, tt)) ≡ Some (under ps c)
+      unfolding under say
+      map_said c ps n = refl
+
+      pub map_puts : (c : Laid) (g : Grid) → Puts (map_naming g) c c
+      map_puts c g = record { said = λ ps n here. map_said c ps n; writable = λ n w. (tt, (w, tt)); quiet = λ s n. refl }
+
+    -- lambda_j, ..
+    identity_puts : (c : Laid) (j : ℕ) (g : Grid) → j ≡ length c.identity → j < 2 ^ 64 → Puts (record { line = λ n. Row kinds.Lambda (j, (n, tt)); grid = g }) c (record c { identity = c.identity ++ given_of g ∷ [] })
+    unfolding under say
+    identity_puts c j g e small = record {
+      said = λ ps n here.
+          ap (λ (t : Bool). where_so t (option_map (λ x. record (under ps c) { identity = c.identity ++ x ∷ [] }) (numbered ps n))) (eq-eqb j (length c.identity) e)
+          ∙ ap (option_map (λ x. record (under ps c) { identity = c.identity ++ x ∷ [] })) here;
       writable = λ n w. (tt, (small, (w, tt)));
       quiet = λ s n. refl;
     }
 
-    theta_puts : (j : ℕ) (g : Grid) (b : Block) → j ≡ length b.lift → j < 2 ^ 64 → Puts (record { line = λ n. Row kinds.Theta (j, (n, tt)); grid = g }) b (record b { lift = b.lift ++ given_of g ∷ [] })
-    unfolding under say
-    theta_puts j g b e small = record {
-      said = λ ps n here.
-          ap (λ (t : Bool). where_so t (option_map (λ x. record (under ps b) { block = Some (record b { lift = b.lift ++ x ∷ [] }) }) (numbered ps n))) (eq-eqb j (length b.lift) e)
-          ∙ ap (option_map (λ x. record (under ps b) { block = Some (record b { lift = b.lift ++ x ∷ [] }) })) here;
-      writable = λ n w. (tt, (small, (w, tt)));
-      quiet = λ s n. refl;
-    }
-
-    pub lifts_put : (j : ℕ) (gs : List Grid) (b : Block) → j ≡ length b.lift → j + length gs < 2 ^ 64 → AllPut (lifts j gs) b (record b { lift = b.lift ++ parts_of gs })
-    lifts_put j [] b e small = ap (λ x. record b { lift = x }) (sym (append-nil b.lift))
-    lifts_put j (g ∷ gs) b e small =
-        let d : Block = record b { lift = b.lift ++ given_of g ∷ [] } in (
+    pub identities_put : (j : ℕ) (gs : List Grid) (c : Laid) → j ≡ length c.identity → j + length gs < 2 ^ 64 → AllPut (identities j gs) c (record c { identity = c.identity ++ parts_of gs })
+    identities_put j [] c e small = ap (λ x. record c { identity = x }) (sym (append-nil c.identity))
+    identities_put j (g ∷ gs) c e small =
+        let d : Laid = record c { identity = c.identity ++ given_of g ∷ [] } in (
           d,
-          theta_puts j g b e (omega (arith, small)),
-          subst (λ x. AllPut (lifts (suc j) gs) d (record b { lift = x })) (append_assoc b.lift (given_of g ∷ []) (parts_of gs))
-              (lifts_put (suc j) gs d (omega (arith, e, length-append b.lift (given_of g ∷ []))) (omega (arith, small))),
+          identity_puts c j g e (omega (arith, small)),
+          subst (λ x. AllPut (identities (suc j) gs) d (record c { identity = x })) (append_assoc c.identity (given_of g ∷ []) (parts_of gs))
+              (identities_put (suc j) gs d (omega (arith, e, length-append c.identity (given_of g ∷ []))) (omega (arith, small))),
         )
 
-    pub block_put : (j : ℕ) (gs ts : List Grid) (b : Block) → j ≡ suc (length b.differentials) → 0 ≡ length b.lift → j + length gs < 2 ^ 64 → length ts < 2 ^ 64
-        → AllPut (differentials j gs ++ lifts 0 ts) b (record b { differentials = b.differentials ++ parts_of gs; lift = b.lift ++ parts_of ts })
-    block_put j [] ts b e none small few =
-        subst (λ x. AllPut (lifts 0 ts) b (record b { differentials = x; lift = b.lift ++ parts_of ts })) (sym (append-nil b.differentials)) (lifts_put 0 ts b none (omega (arith, few)))
-    block_put j (g ∷ gs) ts b e none small few =
-        let d : Block = record b { differentials = b.differentials ++ given_of g ∷ [] } in (
-          d,
-          d_puts j g b e (omega (arith, small)),
-          subst (λ x. AllPut (differentials (suc j) gs ++ lifts 0 ts) d (record b { differentials = x; lift = b.lift ++ parts_of ts })) (append_assoc b.differentials (given_of g ∷ []) (parts_of gs))
-              (block_put (suc j) gs ts d (omega (arith, e, length-append b.differentials (given_of g ∷ []))) none (omega (arith, small)) few),
-        )
+-- d_1 under membership, without a block
+module _ (q : Problem) (h : AreNames q.vars) (l : length q.vars ≡ q.ring.vars) (k m : ℕ) (f : PolyValue) (a : Answer) where
+  pub member_puts : (ids : List Part) (j : ℕ) (g : Grid) → j < 2 ^ 64
+      → Puts q h l k (queries.TheVariants.Member m f) a (record { line = λ n. Row kinds.D (j, (n, tt)); grid = g }) (record { finished = []; block = None; identity = ids }) (record { finished = []; block = None; identity = ids })
+  unfolding under say
+  member_puts ids j g small = record {
+    said = λ ps n here. ap (option_map (λ x. under q h l k (queries.TheVariants.Member m f) a ps (record { finished = []; block = None; identity = ids }))) here;
+    writable = λ n w. (tt, (small, (w, tt)));
+    quiet = λ s n. refl;
+  }

@@ -5,10 +5,10 @@ use Rattle.std.proofs.lemmas.Bool.{lt-ltb}
 use Rattle.std.proofs.lemmas.List.Elements.{All-head, All-tail}
 use Rattle.fm_gfp.specs.Primes.{prime_value}
 use Rattle.fm_gfp.proofs.Residues.{prime_in_64_bits}
-use Rattle.fm_poly.specs.Texts.{AreNames, where_so}
+use Rattle.fm_words.specs.Words.{AreNames, is_name}
+use Rattle.fm_words.specs.Options.{where_so}
 use Rattle.fm_words.specs.Parts.{Bytes}
-use Rattle.fm_words.specs.Words.{is_name}
-use Rattle.fm_problem.specs.declared.limits.TheConstants.{VARIABLES}
+use Rattle.fm_problem.specs.Limits.{most_variables}
 use Rattle.fm_problem.specs.declared.ideal.Ideal.{Ideal}
 use Rattle.fm_problem.specs.declared.problem.Problem.{Problem}
 use Rattle.fm_problem.specs.Statements.{RingLine, OrderLine}
@@ -19,7 +19,8 @@ use Rattle.fm_cert.specs.Lines.{Line, Head, Row, line_text}
 use Rattle.fm_report.specs.Sheets.{Sheet, blank, with_head, from_result, say}
 use Rattle.fm_report.specs.Reading.{sheet_after, statements}
 use Rattle.fm_report.specs.Holding.{AllHold, VerdictsHold}
-use Rattle.fm_report.specs.Reports.{ideal_line, head_lines, query_lines, block_lines, report_lines, report_text, says, after, IsWritableAfter, AreWritable, QueryReport, begun, between, AreWritableBlocks, block_says, report_says, IsWritable}
+use Rattle.fm_cert.specs.Questions.{ideal_line, head_lines}
+use Rattle.fm_report.specs.Reports.{query_lines, block_lines, report_lines, report_text, says, after, IsWritableAfter, AreWritable, QueryReport, begun, between, AreWritableBlocks, block_says, report_says, IsWritable}
 use Rattle.fm_report.proofs.HeadsRead.{ring_read, ideal_read, generators_spelled}
 use Rattle.fm_report.proofs.Holding.{front_holds}
 use Rattle.fm_report.proofs.Written.{text_states, says_append, writable_append}
@@ -36,7 +37,7 @@ module _ (q : Problem) (sound : IsProblem q) (small : HasSmallExponents q) where
   vs : List Bytes
   vs = q.vars
 
-  few : length q.vars ≤ VARIABLES
+  few : length q.vars ≤ most_variables
   few = let named = sound.bounded.named in let few = sound.bounded.few in omega (arith, named, few)
 
   some : 0 < length q.vars

@@ -8,7 +8,8 @@ use Rattle.fm_cert.proofs.LinesRead.{line_read}
 use Rattle.fm_cert.proofs.OneLine.{one_line}
 use Rattle.fm_report.specs.Sheets.{Sheet, blank, ring_in, names_in, say}
 use Rattle.fm_report.specs.Reading.{stated_by, line_in, said_of, states, sheet_after, reading, lines_from, statements}
-use Rattle.fm_report.specs.Reports.{lines_text, says, after, IsWritableAfter, AreWritable}
+use Rattle.fm_cert.specs.Lines.{lines_text}
+use Rattle.fm_report.specs.Reports.{says, after, IsWritableAfter, AreWritable}
 use Rattle.fm_report.proofs.Lines.{is_one_line, lines_at}
 
 module _ (names : List Bytes) where

@@ -1,7 +1,7 @@
 -- What the bytes of a report state: its lines are read one by one, each by what stands before it.
 use Rattle.std.specs.Prelude.{ℕ, Bool, false, if◌then◌else◌, nat_eq, List, [], ◌∷◌, ◌++◌, codes, Option, Some, None}
 use Rattle.std.specs.List.{list_any}
-use Rattle.fm_poly.specs.Texts.{◌>>=◌}
+use Rattle.fm_words.specs.Options.{◌>>=◌}
 use Rattle.fm_words.specs.Parts.{Bytes}
 use Rattle.fm_words.specs.Words.{words, same_bytes}
 use Rattle.fm_problem.specs.declared.problem.Problem.{Problem}

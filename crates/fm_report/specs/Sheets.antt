@@ -2,10 +2,10 @@
 use Rattle.std.specs.Prelude.{ℕ, suc, ◌-◌, Bool, true, false, ◌&&◌, if◌then◌else◌, nat_eq, nat_lt, List, [], ◌∷◌, ◌++◌, map, length, Option, Some, None, option_map, is_none, Result, Ok, Err}
 use Rattle.fm_gfp.specs.declared.prime.Prime.TheVariants.{Two}
 use Rattle.fm_mono.specs.declared.order.Order.TheVariants.{Grevlex}
-use Rattle.fm_poly.specs.Texts.{◌>>=◌, where_so, all_of}
+use Rattle.fm_words.specs.Options.{◌>>=◌, where_so, all_of}
 use Rattle.fm_poly.specs.declared.ring.Ring.{Ring}
 use Rattle.fm_words.specs.Parts.{Bytes}
-use Rattle.fm_problem.specs.Steps.{place}
+use Rattle.fm_words.specs.Steps.{place}
 use Rattle.fm_problem.specs.Statements.{Statement, RingLine, OrderLine, IdealLine}
 use Rattle.fm_problem.specs.Problems.{ring_of, with_order, with_ideal, asked, ideal_names}
 use Rattle.fm_problem.specs.declared.problem.Problem.{Problem}
@@ -159,6 +159,12 @@ say_named s wanted n add k =
 abbrev pub add_differential : Block → Part → Block
 add_differential b x = record b { differentials = b.differentials ++ x ∷ [] }
 
+-- d_1, d_2, .. of the block at hand; no verdict on membership rests on a block, and under it d_1 may stand without one
+abbrev pub say_differential : Sheet → Option Block → Option Query → (j k : ℕ) → Option Sheet
+say_differential s None (Some (queries.TheVariants.Member m f)) j k = option_map (λ x. s) (numbered s.parts k)
+say_differential s None z j k = None
+say_differential s (Some b) z j k = say_named s (λ b. suc (length b.differentials)) j add_differential k
+
 abbrev pub add_lift : Block → Part → Block
 add_lift b x = record b { lift = b.lift ++ x ∷ [] }
 
@@ -210,7 +216,7 @@ say_row s kinds.Stack (k, (a, (b, u))) = say_part s k (two_parts s parts.stack a
 say_row s kinds.Times (k, (a, (b, u))) = say_part s k (two_parts s parts.times a b)
 say_row s kinds.Pick (k, (a, (cs, u))) = say_part s k (all_of (map from_zero cs) >>= λ js. one_part s (λ x. parts.pick x js) a)
 say_row s kinds.Datum (name, (j, u)) = say_datum s name j
-say_row s kinds.D (j, (k, u)) = say_named s (λ b. suc (length b.differentials)) j add_differential k
+say_row s kinds.D (j, (k, u)) = say_differential s s.block s.asked j k
 say_row s kinds.Theta (j, (k, u)) = say_named s (λ b. length b.lift) j add_lift k
 say_row s kinds.Cocycles (k, more) = say_cocycles s k
 say_row s kinds.Z (k, u) = say_cocycles s k

@@ -5,7 +5,7 @@ use Rattle.fm_algebra.specs.PolynomialMatrices.{PolynomialMatrix}
 use Rattle.fm_limit.specs.ResolvedIdeal.{ResolvedIdeal, matrix_at}
 use Rattle.fm_limit.specs.Verdicts.{Verdict, zero_limit, zero_class, inverting, support, root, induced_map, member, resolution, ext}
 use Rattle.fm_poly.specs.Polys.{PolyValue, meaning}
-use Rattle.fm_poly.specs.Texts.{◌>>=◌}
+use Rattle.fm_words.specs.Options.{◌>>=◌}
 use Rattle.fm_poly.specs.declared.ring.Ring.{Ring}
 use Rattle.fm_problem.specs.declared.ideal.Ideal.{Ideal}
 use Rattle.fm_problem.specs.declared.query.Query.{Query}

@@ -76,7 +76,7 @@ columns_long r m (c ∷ cs) shape v i = elim (in_cases (column_meaning r c) (col
   | inr j ↦ columns_long r m cs shape.2 v j
 ]
 
-matrix_shape : (r : Ring) (a : MatrixValue) → AreColumns r a.rows a.columns → HasShape r.prime r.vars a.rows (length (columns_meaning r a.columns)) (matrix_meaning r a)
+pub matrix_shape : (r : Ring) (a : MatrixValue) → AreColumns r a.rows a.columns → HasShape r.prime r.vars a.rows (length (columns_meaning r a.columns)) (matrix_meaning r a)
 matrix_shape r a shape = shape_of r.prime r.vars a.rows (columns_meaning r a.columns) (columns_long r a.rows a.columns shape)
 
 -- the members complete the graph

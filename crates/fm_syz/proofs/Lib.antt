@@ -8,3 +8,12 @@ pub mod Negating
 pub mod LiftedColumns
 pub mod Insides
 pub mod Solutions
+pub mod BorrowedVectors
+pub mod KeptNumbers
+pub mod SpanTests
+pub mod Numbering
+pub mod GeneratingRuns
+pub mod CutBlocks
+pub mod ChosenVectors
+pub mod TrimCalls
+pub mod GeneratorFacts

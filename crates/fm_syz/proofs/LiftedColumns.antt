@@ -13,6 +13,7 @@ use Rattle.fm_run.specs.Runs.{Halt, Budget, Exponent, Ended, Work, Spends, ended
 use Rattle.fm_run.proofs.Following.{after_value, after_halt}
 use Rattle.fm_run.proofs.Spending.{next_spends, then_spends, each_spends, ready_spends}
 use Rattle.fm_run.proofs.Calls.{wanted}
+use Rattle.fm_run.proofs.Parts.{Came, came, ended_ready, ended_twice}
 use Rattle.fm_complete.specs.Reductions.{Reduced}
 use Rattle.fm_complete.specs.Remainders.{RemainderValue, remainder_of, remainder_value}
 use Rattle.fm_complete.specs.Completions.{numbers}
@@ -25,21 +26,6 @@ use Rattle.fm_syz.specs.Insides.{answer_of, with_solutions}
 
 -- ---- what is known of a run by part of its value
 module _ {A B : Type 0} (f : A → B) where
-  abbrev pub Came : Ended A → B → ℕ → Type 0
-  Came d y left = (x : A) × (d ≡ record { end = Ok x; left = left }) × (f x ≡ y)
-
-  pub came : (d : Ended A) (y : B) (left : ℕ) → ended_with f d ≡ record { end = Ok y; left = left } → Came d y left
-  came d y left h = go d.end d.left h
-    where
-      go : (e : Result A Halt) (k : ℕ) → ended_with f (record { end = e; left = k }) ≡ record { end = Ok y; left = left } → Came (record { end = e; left = k }) y left
-      go (Ok x) k h =
-          let same : ◌≡◌ {A = Result B Halt} (Ok (f x)) (Ok y) = ap (λ (d : Ended B). d.end) h in
-          let value : f x ≡ y = cc in
-          (x, ap (λ l. record { end = Ok x; left = l }) (ap (λ (d : Ended B). d.left) h), value)
-      go (Err e) k h =
-          let same : ◌≡◌ {A = Result B Halt} (Err e) (Ok y) = ap (λ (d : Ended B). d.end) h in
-          cc
-
   pub halted_so : (d : Ended A) (s : Halt) (left : ℕ) → ended_with f d ≡ record { end = Err s; left = left } → d ≡ record { end = Err s; left = left }
   halted_so d s left h = go d.end d.left h
     where
@@ -64,22 +50,6 @@ module _ {A B : Type 0} (f : A → B) where
   pub wants_within : {Y C : Type 0} (view' : Y → C) (r : Result Y Stop) (old units new : ℕ) (d : Ended A) (all : Ended C) → d.left ≤ units → d.left ≡ new → units ≤ old → all.left ≤ d.left
       → IsErr r × IsErrAnd r (λ e. e ≡ stops.Memory) → Follows view' r old new all
   wants_within view' r old units new d all spent at earlier less h = wanted view' r old new all h (omega (arith, spent, at, earlier)) (omega (arith, less, at))
-
-module _ {A B : Type 0} (f : A → B) where
-  -- a value that only passes through a function
-  pub ended_ready : (d : Ended A) → next_of (λ y. ready (f y)) d.end d.left ≡ ended_with f d
-  ended_ready d = go d.end d.left
-    where
-      go : (e : Result A Halt) (k : ℕ) → next_of (λ y. ready (f y)) e k ≡ ended_with f (record { end = e; left = k })
-      go (Ok x) k = refl
-      go (Err e) k = refl
-
-  pub ended_twice : {C : Type 0} (g : B → C) (h : A → C) → ((x : A) → g (f x) ≡ h x) → (d : Ended A) → ended_with g (ended_with f d) ≡ ended_with h d
-  ended_twice g h same d = go d.end d.left
-    where
-      go : (e : Result A Halt) (k : ℕ) → ended_with g (ended_with f (record { end = e; left = k })) ≡ ended_with h (record { end = e; left = k })
-      go (Ok x) k = ap (λ y. record { end = Ok y; left = k }) (same x)
-      go (Err e) k = refl
 
 -- ---- columns one after the other
 module _ (r : Ring) (G : Graph r) where
@@ -111,7 +81,7 @@ module _ (r : Ring) (G : Graph r) where
       go true = then_spends (inside_from r G (suc k) vs) (λ y. ready (with_solution r (solution r G x) y)) later (λ y units. omega arith)
       go false = λ units. omega arith
 
-  inside_spends : (k : ℕ) (vs : List (VectorOf r)) → Spends (inside_from r G k vs)
+  pub inside_spends : (k : ℕ) (vs : List (VectorOf r)) → Spends (inside_from r G k vs)
   inside_spends k [] = λ units. omega arith
   inside_spends k (v ∷ vs) = then_spends (lift_run r G v) (step k vs) (lift_spends r G v) (λ x. step_spends k vs x (inside_spends (suc k) vs))
 

@@ -1,2 +1,4 @@
+pub mod GeneratorValues
 pub mod GraphValues
 pub mod Insides
+pub mod Numbers

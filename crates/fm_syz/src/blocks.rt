@@ -5,6 +5,7 @@ ghost use Rattle.fm_poly.specs.declared.ring.Ring.{Ring};
 ghost use Rattle.fm_vec.specs.Components.{column_from};
 
 use fm_mat::Column;
+use fm_poly::Poly;
 use fm_vec::Vector;
 use std::alloc::{AllocError, Global};
 
@@ -23,7 +24,15 @@ pub(crate) fn lower_part(alloc: Global, m: u32, v: &Vector) -> Result<Column, Al
     requires { m ≤ v.now.rows }
     ensures { (r : Ring) (c : ℕ) → v.now.ring ≡ r → v.now.rows ≡ m + c → IfOk result (λ w. w ≡ column_from r c (suc m) v.now.terms) }
 {
+    let lower = lower_entries(alloc, m, v)?;
+    Ok(Column::new(lower))
+}
+
+pub(crate) fn lower_entries(alloc: Global, m: u32, v: &Vector) -> Result<Vec<Poly>, AllocError>
+    requires { m ≤ v.now.rows }
+    ensures { (r : Ring) (c : ℕ) → v.now.ring ≡ r → v.now.rows ≡ m + c → IfOk result (λ w. w.items ≡ column_from r c (suc m) v.now.terms) }
+{
     let mut column = v.to_column(alloc)?;
     let lower = column.split_off(m as usize)?;
-    Ok(Column::new(lower))
+    Ok(lower)
 }

@@ -11,7 +11,7 @@ ghost use Rattle.fm_syz.specs.GraphValues.{graph_meaning};
 
 use crate::column_vectors::vectors;
 use crate::graph::Graph;
-use fm_complete::complete;
+use fm_complete::complete_all;
 use fm_mat::Matrix;
 use fm_run::{Stop, Work};
 use fm_vec::Vector;
@@ -27,7 +27,7 @@ pub fn graph_of(alloc: Global, a: Matrix, work: &mut Work) -> Result<Graph, Stop
     ensures matrix { IfOk result (λ g. g.matrix ≡ a) }
 {
     let columns = graph_columns(alloc, &a)?;
-    let basis = match complete(
+    let basis = match complete_all(
         alloc,
         a.ring(),
         a.rows() + a.columns().len() as u32,

@@ -1,12 +1,14 @@
 // Completed graphs.
-ghost use Rattle.std.specs.Prelude.{length, map, ◌≡◌};
+ghost use Rattle.std.specs.Prelude.{IfOk, length, map, ◌≡◌};
 ghost use Rattle.fm_complete.specs.Bases.{entry_value};
 ghost use Rattle.fm_syz.specs.GraphValues.{IsGraph};
 
+use crate::copying::{copied, copied_members};
 use fm_complete::Entry;
 use fm_mat::Matrix;
 use fm_poly::Ring;
 use fm_vec::Vector;
+use std::alloc::{AllocError, Global};
 use std::marker::Model;
 
 /// A matrix with a completion of its graph: the members of the completion, and its log.
@@ -39,6 +41,19 @@ impl Graph {
             members,
             log,
         }
+    }
+
+    pub fn copy(&self, alloc: Global) -> Result<Graph, AllocError>
+        ensures { IfOk result (λ g. g ≡ self.now) }
+    {
+        let matrix = self.matrix.copy(alloc)?;
+        let members = copied_members(alloc, &self.members)?;
+        let log = copied(alloc, &self.log)?;
+        Ok(Graph {
+            matrix,
+            members,
+            log,
+        })
     }
 
     /// The matrix, whose graph the members complete.

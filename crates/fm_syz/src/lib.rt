@@ -3,8 +3,12 @@
 #![tactic(auto)]
 
 pub(crate) mod blocks;
+pub(crate) mod choosing;
 pub(crate) mod column_vectors;
 pub(crate) mod completing;
+pub(crate) mod copying;
+pub(crate) mod generating;
+pub mod generators;
 pub mod graph;
 #[cfg(test)]
 mod graph_tests;
@@ -15,13 +19,23 @@ mod lift_tests;
 pub mod lifted;
 pub(crate) mod lifting;
 pub(crate) mod lifts;
+pub(crate) mod parts;
+pub mod preimages;
 pub(crate) mod solving;
+pub(crate) mod spanning;
+#[cfg(test)]
+mod trim_tests;
+pub(crate) mod trimming;
 pub(crate) mod twisting;
 
 pub use completing::graph_of;
+pub use generating::{generators_of, kernel, preimage};
+pub use generators::Generators;
 pub use graph::Graph;
 pub use inside::{Inside, Outside, inside_of, whole_of};
 pub use kernels::syzygies;
 pub use lifted::{Lifted, lift};
 pub use lifts::lift_columns;
+pub use preimages::Preimage;
+pub use trimming::trim;
 pub use twisting::twisted;

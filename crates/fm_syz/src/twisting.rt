@@ -1,7 +1,6 @@
 // Twists of completed graphs by powers of the characteristic.
 ghost use Rattle.std.specs.Prelude.{Err, IfOk, IsErrOf, Ok, OnOk, false, length, map, true, ◌^◌, ◌≡◌, ℕ};
 ghost use Rattle.std.specs.List.{list_all};
-ghost use Rattle.fm_complete.specs.Bases.{entry_value};
 ghost use Rattle.fm_complete.specs.Divisions.{AreMembers, terms_of};
 ghost use Rattle.fm_gfp.specs.Primes.{prime_value};
 ghost use Rattle.fm_graphs.specs.Graphs.{twisted_graph};
@@ -11,11 +10,11 @@ ghost use Rattle.fm_syz.specs.GraphValues.{graph_meaning};
 ghost use Rattle.fm_term.specs.Multiples as multiples;
 ghost use Rattle.fm_vec.specs.Multiples.{twist_fits};
 
+use crate::copying::copied;
 use crate::graph::Graph;
-use fm_complete::Entry;
 use fm_poly::{PolyError, Ring};
 use fm_vec::Vector;
-use std::alloc::{AllocError, Global};
+use std::alloc::Global;
 
 /// The twist by q = p^e: the matrix and each member are twisted, and the log stays. It divides nothing; it is linear in the terms.
 pub fn twisted(alloc: Global, g: &Graph, e: u8) -> Result<Graph, PolyError>
@@ -57,29 +56,4 @@ fn twisted_members(
         out.push(v.twist(alloc, e)?)?;
         members = later;
     }
-}
-
-/// A copy of the log.
-fn copied(alloc: Global, log: &[Entry]) -> Result<Vec<Entry>, AllocError>
-    ensures { IfOk result (λ out. map entry_value out.items ≡ map entry_value log.now) }
-{
-    let mut out = Vec::with_capacity(alloc, log.len())?;
-    let mut log = log;
-    'log: loop {
-        let Some((entry, later)) = log.split_first() else {
-            return Ok(out);
-        };
-        out.push(copied_entry(alloc, entry)?)?;
-        log = later;
-    }
-}
-
-fn copied_entry(alloc: Global, entry: &Entry) -> Result<Entry, AllocError>
-    ensures { IfOk result (λ x. entry_value x ≡ entry_value entry.now) }
-{
-    Ok(Entry {
-        start: entry.start,
-        by: entry.by.to_vec(alloc)?,
-        keep: entry.keep,
-    })
 }

@@ -8,7 +8,7 @@ use crate::reply::Reply;
 use fm_base::Status;
 use fm_decide::answer;
 use fm_problem::{FaultKind, Problem, ProblemError, read_problem};
-use fm_writer::words::number_word;
+use itoa::Buffer;
 use std::alloc::{AllocError, Global};
 
 // What a problem text within the limit gives, with this number of units for each query.
@@ -53,7 +53,8 @@ fn fault_line(alloc: Global, line: u32, kind: FaultKind) -> Result<Reply, AllocE
     ensures bytes { IfOk result (λ r. r.bytes.items ≡ (faulted (record { line = line; kind = kind })).bytes) }
 {
     let mut bytes = b"line ".to_vec(alloc)?;
-    bytes.extend_from_slice(&number_word(alloc, u64::from(line))?)?;
+    let mut digits = Buffer::new();
+    bytes.extend_from_slice(digits.format(u64::from(line)).as_bytes())?;
     bytes.extend_from_slice(b": ")?;
     bytes.extend_from_slice(kind.text().as_bytes())?;
     bytes.push(b'\n')?;

@@ -3,6 +3,8 @@
 
 mod deciding;
 mod reply;
+#[cfg(test)]
+mod resolution_tests;
 mod running;
 #[cfg(test)]
 mod tests;

@@ -14,7 +14,39 @@ struct Row {
     written: &'static [u8],
 }
 
-const ROWS: [Row; 32] = [
+const ROWS: [Row; 36] = [
+    Row {
+        words: &["decide", "--budget", "5"],
+        text: b"ring 2 x y\nideal I = x, y\nmember I x\n",
+        failing_reads: &[],
+        failing_writes: &[],
+        status: Status::Done,
+        written: b"report 0\nring 2 x y\norder grevlex\nideal I = x, y\nquery 1 member I x\nanswer yes\npart 1 given 1 2 (x) (y)\nd 1 1\ndone 1\nend report\n",
+    },
+    Row {
+        words: &["decide", "--budget", "4"],
+        text: b"ring 2 x y\nideal I = x, y\nmember I x\n",
+        failing_reads: &[],
+        failing_writes: &[],
+        status: Status::Unanswered,
+        written: b"report 0\nring 2 x y\norder grevlex\nideal I = x, y\nquery 1 member I x\nunanswered budget member\ndone 1\nend report\n",
+    },
+    Row {
+        words: &["decide", "--budget", "3"],
+        text: b"ring 2 x y\nideal I = x, y\nmember I x\n",
+        failing_reads: &[],
+        failing_writes: &[],
+        status: Status::Unanswered,
+        written: b"report 0\nring 2 x y\norder grevlex\nideal I = x, y\nquery 1 member I x\nunanswered budget member\ndone 1\nend report\n",
+    },
+    Row {
+        words: &["decide"],
+        text: b"ring 31 x y\norder lex\nideal I = x*y, y^2\nideal J = 0\nmember I -x\nmember I 3*y^2 - x^2*y\nmember J 0\nmember J x\n",
+        failing_reads: &[],
+        failing_writes: &[],
+        status: Status::Done,
+        written: b"report 0\nring 31 x y\norder lex\nideal I = x*y, y^2\nideal J = 0\nquery 1 member I 30*x\nanswer no\npart 1 given 1 2 (x*y) (y^2)\nd 1 1\ndone 1\nquery 2 member I 30*x^2*y+3*y^2\nanswer yes\npart 1 given 1 2 (x*y) (y^2)\nd 1 1\ndone 2\nquery 3 member J 0\nanswer yes\npart 1 given 1 0\nd 1 1\ndone 3\nquery 4 member J x\nanswer no\npart 1 given 1 0\nd 1 1\ndone 4\nend report\n",
+    },
     Row {
         words: &["decide"],
         text: b"ring 3 x y\nideal I = x*y\nclass 1 I 0 (x^2*y)\n",

@@ -1,3 +1,5 @@
 pub mod Parts
 pub mod Words
 pub mod Lines
+pub mod Options
+pub mod Steps

@@ -22,6 +22,10 @@ is_mark Close b = nat_eq b 41
 abbrev pub parts : Mark → Bytes → List Bytes
 parts m text = slice_split (is_mark m) text
 
+-- the pieces of a text between the bytes c
+abbrev pub pieces : ℕ → Bytes → List Bytes
+pieces c text = slice_split (λ b. nat_eq b c) text
+
 -- the text before the first mark
 abbrev pub before_mark : Mark → Bytes → Bytes
 before_mark m [] = []

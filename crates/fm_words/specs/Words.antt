@@ -1,5 +1,5 @@
 -- Words, numbers and names.
-use Rattle.std.specs.Prelude.{ℕ, ◌+◌, ◌-◌, ◌*◌, ◌^◌, Bool, true, false, ◌&&◌, ◌||◌, if◌then◌else◌, nat_eq, nat_lt, List, [], ◌∷◌, Option, Some, None}
+use Rattle.std.specs.Prelude.{◌≡◌, ℕ, ◌+◌, ◌-◌, ◌*◌, ◌^◌, Bool, true, false, ◌&&◌, ◌||◌, if◌then◌else◌, nat_eq, nat_lt, List, [], ◌∷◌, Option, Some, None}
 use Rattle.std.specs.List.{list_all}
 use lib.Pointwise.{pointwise}
 use Rattle.fm_words.specs.declared.mark.Mark.TheVariants.{Blank}
@@ -48,6 +48,12 @@ value_from n (b ∷ bs) = value_from (n * 10 + (b - 48)) bs
 abbrev pub value : Bytes → ℕ
 value w = value_from 0 w
 
+-- digits without leading zeros
+abbrev pub is_exact : Bytes → Bool
+is_exact [] = false
+is_exact (b ∷ []) = true
+is_exact (b ∷ c ∷ bs) = if nat_eq b 48 then false else true
+
 -- the number, if it is below 2^64
 abbrev pub small : ℕ → Option ℕ
 small n = if nat_lt n (2 ^ 64) then Some n else None
@@ -64,3 +70,11 @@ is_name_byte b = is_letter b || (is_digit b || nat_eq b 95)
 abbrev pub is_name : Bytes → Bool
 is_name [] = false
 is_name (b ∷ bs) = is_letter b && list_all is_name_byte bs
+
+-- names, no two of them equal
+abbrev pub are_names : List Bytes → Bool
+are_names [] = true
+are_names (m ∷ ms) = is_name m && (list_all (λ o. if same_bytes o m then false else true) ms && are_names ms)
+
+unfoldable pub AreNames : List Bytes → Type 0
+AreNames names = are_names names ≡ true

@@ -6,6 +6,7 @@ pub mod mark;
 pub mod names;
 pub mod numbers;
 pub mod parts;
+pub mod read_error;
 pub mod words;
 
 pub use lines::{Line, Lines, end_of, next_line};
@@ -13,4 +14,5 @@ pub use mark::Mark;
 pub use names::is_name;
 pub use numbers::{is_number, number};
 pub use parts::{first_part, two_parts};
+pub use read_error::ReadError;
 pub use words::{is_blank, next_word, one_word, three_words, two_words};

@@ -23,7 +23,7 @@ pub fn a_short_report_of_each_kind()
         ≡ verdict Three 2 (support 1 (resolved plane I cross) (meant plane (poly 1 1 1 ∷ []))) ∷ [] }
     ensures map { statements (head_text ++ (codes "query 1 map 1 J I\nanswer zero no one yes onto yes stage 1\n" ++ (source_text ++ codes "datum I 1\npart 5 given 1 1 (-2*y*x)\nd 1 5\nd 2 2\ntheta 0 3\npart 6 given 1 1 (y*x^2*y)\ntheta 1 6\nlambda 0 3\npart 7 given 1 1 (-y*2)\nlambda 1 7\ndone 1\n")))
         ≡ verdict Three 2 (induced_map 1 (resolved plane J line) (resolved plane I cross) (part_values plane (one_by_one (poly 0 0 1) ∷ one_by_one (poly 0 1 1) ∷ [])) false true (Some 1)) ∷ [] }
-    ensures member { statements (head_text ++ codes "query 1 member I y*x^2-x\nanswer no\npart 1 given 1 1 (x*y)\ndone 1\n")
+    ensures member { statements (head_text ++ codes "query 1 member I y*x^2-x\nanswer no\npart 1 given 1 1 (x*y)\nd 1 1\ndone 1\n")
         ≡ verdict Three 2 (member (meant plane I) (meaning plane (monomial 2 1 1 ∷ monomial 1 0 2 ∷ [])) false) ∷ [] }
     ensures resolution { statements (head_text ++ codes "query 1 resolution 1 I\nanswer ranks 1 1 0\ndatum I 1\npart 1 given 1 1 (y*x)\nd 1 1\npart 2 given 1 0\nd 2 2\ndone 1\n")
         ≡ verdict Three 2 (resolution (meant plane I) 1 (part_values plane cross.differentials) (1 ∷ 1 ∷ 0 ∷ [])) ∷ [] }
@@ -52,6 +52,7 @@ pub fn broken_lines_state_what_never_holds()
     ensures question { statements (head_text ++ codes "query 1 class 1 T 0 (x)\n") ≡ unreadable ∷ [] }
     ensures done { statements (head_text ++ codes "query 1 class 1 I 0 (x)\nanswer no\ndone 2\n") ≡ unreadable ∷ [] }
     ensures matrix { statements (head_text ++ codes "query 1 class 1 I 0 (x)\nanswer no\ntheta 0 1\n") ≡ unreadable ∷ [] }
+    ensures part { statements (head_text ++ codes "query 1 member I x\nanswer no\nd 1 1\n") ≡ unreadable ∷ [] }
     ensures silent { statements (head_text ++ codes "query 1 class 1 I 0 (x)\nunanswered budget lift 1\ndone 1\nend report\nrefused line 7 value\nline 3: syntax\n")
         ≡ [] }
 {}

@@ -1,11 +1,15 @@
-use Rattle.std.proofs.Common.{◌∙◌, ◌+◌, length, sym, ap, ap₂, refl, arith, List}
+use Rattle.std.proofs.Common.{◌∙◌, ◌+◌, ◌≡◌, ◌++◌, ◌∷◌, [], length, sym, ap, ap₂, refl, subst, arith, List}
 use Rattle.fm_vec.specs.Vectors.{VectorValue}
 use Rattle.fm_vec.specs.Multiples.{monic_of}
 use Rattle.fm_vec.proofs.Proper.{moved_vector}
+use Rattle.fm_complete.specs.declared.head_index.Head.{Head}
 use Rattle.fm_complete.specs.Bases.{start_value}
 use Rattle.fm_complete.specs.Completions.{with_pairs}
 use Rattle.fm_complete.specs.Divisions.{terms_of}
-use Rattle.fm_complete.proofs.Standing.{standing_more, pairs_more, kept_more}
+use Rattle.fm_complete.specs.Indexed.{IsIndexOf}
+use Rattle.fm_complete.specs.Spread.{IsFront, tail_columns}
+use Rattle.fm_complete.proofs.Indexed.{heads_length, front_more}
+use Rattle.fm_complete.proofs.Standing.{length_terms, terms_more, standing_more, pairs_more, kept_more}
 use Rattle.fm_complete.proofs.completing.keep.Goals as goal
 
 pub returns-clause-kept : goal.returns-clause-kept
@@ -32,3 +36,24 @@ returns-clause-pairs c =
     c.args.c.now.pending.items c.push_pairs.new.pending.items c.requires.pairs
     (c.in_ok-push_pairs.ensures.pairs ∙ ap₂ (λ n (ms : List VectorValue). with_pairs c.args.ring.order (n + 1) c.in-Some.head 1 (terms_of ms) c.args.c.now.pending.items) (c.len-count.ensures ∙ sym c.deref.ensures.len ∙ ap (λ (vs : List VectorValue). length vs) c.deref.ensures.value) c.deref.ensures.value)
     c.in_ok-push_pairs.ensures.over
+
+pub add-requires-clause-count : goal.add-requires-clause-count
+add-requires-clause-count c =
+    ap (λ (rows : List (List Head)). length rows) c.requires.ready.heads.heads ∙ heads_length c.args.rows 1 (terms_of c.args.c.now.members.items)
+    ∙ sym (ap (λ (x : VectorValue). x.rows) c.in_ok-member.ensures ∙ c.requires.rows)
+
+pub returns-clause-ready : goal.returns-clause-ready
+returns-clause-ready c =
+    let r = c.args.ring in
+    let old = c.args.c.now.members.items in
+    let v : VectorValue = c.in_ok-member.member in
+    let rows : v.rows ≡ c.args.rows = ap (λ (x : VectorValue). x.rows) c.in_ok-member.ensures ∙ c.requires.rows in
+    let more = sym (ap terms_of c.in_ok-push-2.ensures.items ∙ terms_more old v) in
+    let count = (let a = c.len-count.ensures ∙ sym c.deref.ensures.len ∙ ap (λ (vs : List VectorValue). length vs) c.deref.ensures.value in a) in
+    let long = length_terms old in
+    record {
+      heads = subst (λ ms. IsIndexOf r c.args.rows ms c.add.new.self) more
+          (subst (λ n. IsIndexOf r n (terms_of old ++ v.terms ∷ []) c.add.new.self) rows
+          (c.in_ok-add.ensures.index (terms_of old) (subst (λ n. IsIndexOf r n (terms_of old) c.args.c.now.heads) (sym rows) c.requires.ready.heads) (omega (arith, count, long))));
+      tails = subst (λ ms. IsFront c.args.c.now.tails.items (tail_columns r c.args.rows ms)) more (front_more r c.args.rows (terms_of old) v.terms c.args.c.now.tails.items c.requires.ready.tails);
+    }

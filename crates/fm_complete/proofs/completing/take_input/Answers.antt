@@ -19,7 +19,7 @@ returns-in-Err-keep-clause-follows c =
     let v = c.args.v.now.terms in
     let ms = terms_of c.args.c.now.members.items in
     let now : Completion = completion_value c.args.c.now in
-    row_wants (λ units. divided r ms units v) (λ x. ready (kept r (Input c.args.number) (numbers x.steps) x.rest now)) c.args.work.now c.rest_of.new.work
+    row_wants (λ units. divided r ms units v) (λ x. ready (kept r (Input c.args.number) (numbers x.steps) x.rest now)) c.args.work.now c.divided_rest.new.work
     (divided_run_spends r ms v) (λ x. ready_spends (kept r (Input c.args.number) (numbers x.steps) x.rest now))
     (ap₂ (λ (q : Ring) (vs : List VectorValue). (divided q (terms_of vs) c.args.work.now v).left) (sym c.requires.ring) (sym c.deref.ensures.value)
     ∙ ap (λ (d : Ended RemainderValue). d.left) c.in-Ok.ensures.follows)

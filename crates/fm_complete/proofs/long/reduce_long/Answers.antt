@@ -7,8 +7,8 @@ use Rattle.fm_complete.specs.Trails.{ahead}
 use Rattle.fm_complete.proofs.Running.{leaves}
 use Rattle.fm_complete.proofs.long.reduce_long.Goals as goal
 
-pub returns-in_err-tails-clause-follows : goal.returns-in_err-tails-clause-follows
-returns-in_err-tails-clause-follows c =
+pub returns-in_err-fill_tails-clause-follows : goal.returns-in_err-fill_tails-clause-follows
+returns-in_err-fill_tails-clause-follows c =
     let ms = terms_of c.args.basis.now in
     let v = c.args.rest.now in
     let all = ahead c.args.steps.items (reduced v.ring ms c.args.work.now v.terms) in

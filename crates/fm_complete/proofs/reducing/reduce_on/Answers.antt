@@ -1,4 +1,5 @@
 use Rattle.std.proofs.Common.{Err, refl, sym, ap, ◌∙◌, subst, arith}
+use Rattle.std.proofs.lemmas.Result.{on_ok_weaker}
 use Rattle.fm_poly.specs.declared.ring.Ring.{Ring}
 use Rattle.fm_vec.specs.Vectors.{VectorValue}
 use Rattle.fm_vec.proofs.Proper.{moved_vector}
@@ -6,6 +7,7 @@ use Rattle.fm_complete.specs.Divisions.{terms_of}
 use Rattle.fm_complete.specs.Reductions.{Reduced, reduced}
 use Rattle.fm_complete.specs.Trails.{ahead}
 use Rattle.fm_complete.proofs.Heads.{no_head, next_is}
+use Rattle.fm_complete.proofs.Indexed.{front_for}
 use Rattle.fm_run.specs.Runs.{Ended, Follows, halt_of}
 use Rattle.fm_run.proofs.Calls.{stopped, follows_later, wanted}
 use Rattle.fm_complete.specs.Reduced.{reduction_value}
@@ -35,6 +37,7 @@ steps-preserved c =
       run = turn_run ring members c.steps.steps.items c.steps.rest.terms c.steps.invariant.ring_is c.in-Some.ensures.head c.in-Some-find_step.ensures.found
           c.in_ok-push.ensures.items left c.steps.work c.spend.new.self _ c.if-not-spend.ensures c.in-Ok.ensures.fits c.steps.invariant.run;
       spent = let h = c.if-not-spend.ensures in let k = c.steps.invariant.spent in omega (arith, h, k);
+      tails = c.steps.invariant.tails;
       trail = turn_trail ring members c.steps.steps.items c.steps.rest.terms c.steps.invariant.ring_is c.in-Some.ensures.head c.in-Some-find_step.ensures.found
           c.in_ok-push.ensures.items left c.length-rows.result (moved_vector refl c.steps.invariant.rows_is refl c.head.ensures.proper) c.in-Some-find_step.ensures.proper c.steps.invariant.trail;
     }
@@ -72,3 +75,14 @@ returns-in_err-push-clause-follows c =
     let h = c.if-not-spend.ensures in let k = c.steps.invariant.spent in
     wanted reduction_value c.from_residual.result c.args.work.now c.spend.new.self all c.from_residual.ensures (omega (arith, h, k))
     (step_leaves ring ms c.steps.steps.items c.steps.work c.spend.new.self c.steps.rest.terms all (c.in-Some-find_step.step, c.in-Some-find_step.b.now.terms) step c.if-not-spend.ensures whole)
+
+pub reduce_long-requires-clause-tails : goal.reduce_long-requires-clause-tails
+reduce_long-requires-clause-tails c =
+    front_for c.steps.rest.ring c.args.rest.ring c.steps.rest.rows c.args.rest.rows (terms_of c.args.basis.now) c.steps.tails.items (c.steps.invariant.ring_is ∙ c.ring-ring.ensures) (c.steps.invariant.rows_is ∙ c.length-rows.ensures)
+    c.steps.invariant.tails
+
+pub returns-then-terms-gt-LONG-clause-tails : goal.returns-then-terms-gt-LONG-clause-tails
+returns-then-terms-gt-LONG-clause-tails c =
+    on_ok_weaker c.reduce_long.result
+    (front_for c.args.rest.ring c.steps.rest.ring c.args.rest.rows c.steps.rest.rows (terms_of c.args.basis.now) c.reduce_long.new.tails.items (sym (c.steps.invariant.ring_is ∙ c.ring-ring.ensures)) (sym (c.steps.invariant.rows_is ∙ c.length-rows.ensures)))
+    c.reduce_long.ensures.tails

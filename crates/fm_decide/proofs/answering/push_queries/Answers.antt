@@ -1,28 +1,30 @@
-use Rattle.std.proofs.Common.{true, ◌≡◌}
-use Rattle.std.proofs.lemmas.List.Elements.{All-rest}
-use Rattle.fm_problem.specs.Problems.{is_built}
+use Rattle.std.proofs.Common.{◌≡◌, ◌∙◌, ◌&&◌, All, subst}
+use Rattle.std.proofs.lemmas.List.Elements.{All-head}
 use Rattle.fm_problem.specs.Sound.{IsQueryOf}
-use Rattle.fm_decide.proofs.Loops.{query_written, all_after_true, all_after_false, one_fewer}
+use Rattle.fm_decide.proofs.Loops.{and_false, and_true, answered, finished, query_over, skipped}
 use Rattle.fm_decide.proofs.answering.push_queries.Goals as goal
+use Rattle.fm_decide.proofs.answering.push_queries.Goals.{then-all, else-all}
 
-pub queries-preserved-then-all : goal.queries-preserved-then-all
-queries-preserved-then-all c = (
-  query_written c.args.problem.now.vars c.args.units c.args.problem.now c.queries.number c.in-Some.query.now c.in-Some.rest.now _ c.in_ok-answered.ensures.0 _ _ _
-      c.in-Some.ensures.cases.0 c.in_ok-answered.ensures.1 c.in_ok-answered.ensures.3 c.queries.invariant.0,
-  all_after_true c.args.units c.args.problem.now c.in-Some.query.now c.in-Some.rest.now _ c.in_ok-answered.ensures.0 _ _ _ c.if-all.true
-      c.in-Some.ensures.cases.0 c.in_ok-answered.ensures.1 c.in_ok-answered.ensures.2 c.queries.invariant.1,
-  All-rest (IsQueryOf c.args.problem.now) _ _ _ c.in-Some.ensures.cases.0 c.queries.invariant.2,
-  All-rest (λ z. is_built c.args.problem.now.ideals z ≡ true) _ _ _ c.in-Some.ensures.cases.0 c.queries.invariant.3,
-  one_fewer _ _ _ _ _ c.in-Some.ensures.cases.0 c.queries.invariant.4,
-)
+pub returns-in_default-clause-text : goal.returns-in_default-clause-text
+returns-in_default-clause-text c = finished c.args.units c.args.problem.now _ c.queries.number _ _ c.in_default.ensures.cases c.queries.invariant.0
+
+pub queries-preserved-in_default-2 : goal.queries-preserved-in_default-2
+queries-preserved-in_default-2 c =
+    skipped c.args.units c.args.problem.now c.in-Some.query.now c.in-Some.rest.now _ c.in_ok-answer.field-0 c.queries.number c.queries.out.items _ c.queries.all _
+    c.in-Some.ensures.cases.0 c.in_ok-answer.ensures.value c.in_default-2.is c.queries.invariant
+
+pub push_block-requires-clause-query : goal.push_block-requires-clause-query
+push_block-requires-clause-query c =
+    let q = c.args.problem.now in
+    query_over q _ (All-head (IsQueryOf q) _ _ (subst (All (IsQueryOf q)) c.in-Some.ensures.cases.0 c.queries.invariant.2))
 
 pub queries-preserved : goal.queries-preserved
-queries-preserved c = (
-  query_written c.args.problem.now.vars c.args.units c.args.problem.now c.queries.number c.in-Some.query.now c.in-Some.rest.now _ c.in_ok-answered.ensures.0 _ _ _
-      c.in-Some.ensures.cases.0 c.in_ok-answered.ensures.1 c.in_ok-answered.ensures.3 c.queries.invariant.0,
-  all_after_false c.args.units c.args.problem.now c.in-Some.query.now c.in-Some.rest.now _ c.in_ok-answered.ensures.0 _ _ _ c.if-all.false
-      c.in-Some.ensures.cases.0 c.in_ok-answered.ensures.1 c.in_ok-answered.ensures.2 c.queries.invariant.1,
-  All-rest (IsQueryOf c.args.problem.now) _ _ _ c.in-Some.ensures.cases.0 c.queries.invariant.2,
-  All-rest (λ z. is_built c.args.problem.now.ideals z ≡ true) _ _ _ c.in-Some.ensures.cases.0 c.queries.invariant.3,
-  one_fewer _ _ _ _ _ c.in-Some.ensures.cases.0 c.queries.invariant.4,
-)
+queries-preserved c =
+    let done = c.is_answer-answered.result in
+    let both : c.if-all.all ≡ (c.queries.all && done) = elim c.if-all.branch [
+      | then-all w ↦ w.all-is ∙ and_true c.queries.all done w.if-all.true
+      | else-all w ↦ w.all-is ∙ and_false c.queries.all done w.if-all.false
+    ] in
+    answered c.args.units c.args.problem.now c.in-Some.query.now c.in-Some.rest.now _ c.in_ok-answer.field-0 c.in-Some-2.answer c.queries.number
+    c.queries.out.items c.push_block.new.out.items _ c.queries.all done c.if-all.all _ c.in-Some.ensures.cases.0 c.in_ok-answer.ensures.value c.in-Some-2.is
+    c.in_ok-push_block.ensures c.is_answer-answered.ensures both c.queries.invariant

@@ -2,7 +2,7 @@ use Rattle.std.proofs.Common.{◌≡◌, [], true, length}
 use Rattle.std.specs.List.{list_all}
 use Rattle.fm_words.specs.Words.{is_name, words}
 use Rattle.fm_problem.specs.Problems.{plus_name}
-use Rattle.fm_problem.specs.Steps.{steps}
+use Rattle.fm_words.specs.Steps.{steps}
 use Rattle.fm_problem.proofs.names.read_names.Given as goal
 
 abbrev pub invariant-names : goal.invariant-names

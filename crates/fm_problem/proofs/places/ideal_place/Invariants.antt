@@ -1,5 +1,5 @@
 use Rattle.std.proofs.Common.{◌≡◌, ◌+◌, length, map}
-use Rattle.fm_problem.specs.Steps.{place}
+use Rattle.fm_words.specs.Steps.{place}
 use Rattle.fm_problem.proofs.places.ideal_place.Given as goal
 
 abbrev pub invariant-ideals : goal.invariant-ideals

@@ -1,7 +1,7 @@
 use Rattle.std.proofs.Common.{◌≡◌, ◌<◌, ◌^◌, option_map}
 use Rattle.fm_words.specs.Lines.{ahead, reach, size_of}
 use Rattle.fm_problem.specs.Problems.{IsBounded, plus_line}
-use Rattle.fm_problem.specs.Steps.{steps}
+use Rattle.fm_words.specs.Steps.{steps}
 use Rattle.fm_problem.proofs.reading.read_lines.Given as goal
 
 abbrev pub invariant-lines : goal.invariant-lines

@@ -22,12 +22,12 @@ returns-in_err-columns-clause-follows c =
 pub returns-in-Err-clause-follows : goal.returns-in-Err-clause-follows
 returns-in-Err-clause-follows c =
     graph_halts c.args.a.ring c.ring.result c.args.a c.deref.result.now c.in_ok-columns.columns.items c.args.work.now c.ring.ensures c.deref.ensures.value c.in_ok-columns.ensures.terms
-    c.complete.new.work (halt_of c.in-Err.stop) c.in-Err.ensures.follows
+    c.complete_all.new.work (halt_of c.in-Err.stop) c.in-Err.ensures.follows
 
 pub returns-clause-follows : goal.returns-clause-follows
 returns-clause-follows c =
     graph_ends c.args.a.ring c.ring.result c.args.a c.deref.result.now c.in_ok-columns.columns.items c.args.work.now c.ring.ensures c.deref.ensures.value c.in_ok-columns.ensures.terms
-    (basis_value c.in-Ok.basis) c.complete.new.work c.new.result c.in-Ok.ensures.follows (ap (λ (g : GraphValue). graph_meaning c.args.a.ring g) c.new.ensures)
+    (basis_value c.in-Ok.basis) c.complete_all.new.work c.new.result c.in-Ok.ensures.follows (ap (λ (g : GraphValue). graph_meaning c.args.a.ring g) c.new.ensures)
 
 pub new-requires : goal.new-requires
 new-requires c =
@@ -38,6 +38,6 @@ new-requires c =
           (subst (λ n. AreMembers c.ring.result n c.in-Ok.basis.members.items) (omega (arith, c.rows.ensures, width, c.columns.ensures.few, c.requires.room)) c.in-Ok.ensures.members);
       few = c.in-Ok.ensures.few;
       high = c.requires.room;
-      completed = graph_is_complete r c.ring.result c.args.a c.deref.result.now c.in_ok-columns.columns.items c.args.work.now c.complete.new.work (basis_value c.in-Ok.basis) c.ring.ensures c.deref.ensures.value
+      completed = graph_is_complete r c.ring.result c.args.a c.deref.result.now c.in_ok-columns.columns.items c.args.work.now c.complete_all.new.work (basis_value c.in-Ok.basis) c.ring.ensures c.deref.ensures.value
           c.in_ok-columns.ensures.terms c.columns.ensures.shape c.in-Ok.ensures.follows;
     }

@@ -1,6 +1,6 @@
 use mathlib.Core.Path.{refl}
-use Rattle.fm_problem.specs.SumOfTerms.{sum_of_terms}
-use Rattle.fm_problem.specs.Certificates.{certificate_polynomial}
+use Rattle.fm_text.specs.SumOfTerms.{sum_of_terms}
+use Rattle.fm_text.specs.Certificates.{certificate_polynomial}
 use Rattle.fm_cert.specs.Fields.{exact_number, read_polynomial, read_vector}
 use Rattle.fm_cert.specs.Lines.{line_of}
 use Rattle.fm_report.specs.Sheets.{new_block, blank, say}

@@ -1,6 +1,6 @@
 use mathlib.Core.Path.{refl}
-use Rattle.fm_problem.specs.SumOfTerms.{sum_of_terms}
-use Rattle.fm_problem.specs.Certificates.{certificate_polynomial}
+use Rattle.fm_text.specs.SumOfTerms.{sum_of_terms}
+use Rattle.fm_text.specs.Certificates.{certificate_polynomial}
 use Rattle.fm_cert.specs.Fields.{exact_number, read_polynomial, read_vector}
 use Rattle.fm_cert.specs.Lines.{line_of}
 use Rattle.fm_report.specs.Sheets.{new_block, blank, say}
@@ -38,6 +38,10 @@ returns-clause-done c = refl
 pub returns-clause-matrix : goal.returns-clause-matrix
 unfolding statements line_in line_of say blank new_block exact_number read_polynomial read_vector certificate_polynomial sum_of_terms
 returns-clause-matrix c = refl
+
+pub returns-clause-part : goal.returns-clause-part
+unfolding statements line_in line_of say blank new_block exact_number read_polynomial read_vector certificate_polynomial sum_of_terms
+returns-clause-part c = refl
 
 pub returns-clause-silent : goal.returns-clause-silent
 unfolding statements line_in line_of say blank new_block exact_number read_polynomial read_vector certificate_polynomial sum_of_terms

@@ -1,5 +1,0 @@
-use Rattle.fm_poly.proofs.PrintingSteps.{listed_lengths}
-use Rattle.fm_poly.proofs.poly.Poly.text.Goals as goal
-
-pub push_terms-requires : goal.push_terms-requires
-push_terms-requires c = rw c.terms.ensures.same (listed_lengths _ _ _ _ c.requires c.terms.ensures.canonical.listed)

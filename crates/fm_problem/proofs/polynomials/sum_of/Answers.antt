@@ -1,5 +1,0 @@
-use Rattle.fm_problem.proofs.TermSums.{sum_is}
-use Rattle.fm_problem.proofs.polynomials.sum_of.Goals as goal
-
-pub returns : goal.returns
-returns c = sum_is c.args.ring _ c.args.terms.now c.in_ok-sum.ensures.ring c.terms-falling.ensures.canonical c.in_ok-sum.ensures.sum c.requires

@@ -1,0 +1,12 @@
+pub mod Bytes
+pub mod PrintingSteps
+pub mod PrintedFactors
+pub mod PrintedPolys
+pub mod FactorCuts
+pub mod TermCuts
+pub mod TermSums
+pub mod WrittenExponents
+pub mod FactorsRead
+pub mod PolynomialsRead
+pub mod UniqueTexts
+pub mod SoundPolynomials
