@@ -1,11 +1,13 @@
 -- The program's matrices, and the lines that name them.
-use Rattle.std.specs.Prelude.{ℕ, ◌+◌, List, [], ◌∷◌, ◌++◌, map, length, Option, Some, None, Vec}
+use Rattle.std.specs.Prelude.{◌≡◌, ℕ, ◌+◌, List, [], ◌∷◌, ◌++◌, map, length, Option, Some, None, Vec}
 use Rattle.std.specs.Global.{Global}
 use Rattle.fm_words.specs.Parts.{Bytes}
 use Rattle.fm_cert.specs.declared.grid.Grid as grids
 use Rattle.fm_cert.specs.declared.grid.Naming as namings
 use Rattle.fm_cert.specs.declared.grid.Slot.{Slot}
 use Rattle.fm_cert.specs.declared.grid.Slot.TheVariants as slots
+use Rattle.fm_cert.specs.declared.naming.Numbered.{Numbered}
+use Rattle.fm_cert.specs.declared.naming.Numbered.TheVariants as numbers
 use Rattle.fm_cert.specs.Kinds as kinds
 use Rattle.fm_cert.specs.Lines.{Line, Row}
 use Rattle.fm_cert.specs.Naming.{Grid, Naming, part_line}
@@ -46,12 +48,17 @@ words_of ws = map (λ w. w.items) ws
 abbrev pub forms_of : List (Vec (Vec ℕ Global) Global) → List (List Bytes)
 forms_of fs = map (λ f. words_of f.items) fs
 
+-- the number that a form has already
+abbrev pub known_number : Numbered → Option ℕ
+known_number (numbers.Known k) = Some k
+known_number (numbers.New k) = None
+
+-- a new number is the next after these many
+abbrev pub IsNext : ℕ → Numbered → Type 0
+IsNext count (numbers.Known k) = Unit {0}
+IsNext count (numbers.New k) = k ≡ count + 1
+
 -- the lines that name a matrix, of which the place among the numbered forms is given
 abbrev pub lines_naming : Option ℕ → Naming → List (List Bytes) → List Line
 lines_naming (Some k) x forms = x.line k ∷ []
 lines_naming None x forms = part_line (length forms + 1) x.grid ∷ x.line (length forms + 1) ∷ []
-
--- the numbered forms after that
-abbrev pub forms_after : Option ℕ → List (List Bytes) → List Bytes → List (List Bytes)
-forms_after (Some k) forms form = forms
-forms_after None forms form = forms ++ form ∷ []

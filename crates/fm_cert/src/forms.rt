@@ -1,12 +1,10 @@
-// The printed forms of matrices, and the numbers that they have.
+// The printed forms of matrices.
 ghost use Rattle.std.specs.Prelude.{IfOk, OnOk, map, string_bytes, length, zero, ◌++◌, ◌≡◌};
-ghost use Rattle.fm_words.specs.Words.{same_bytes};
 ghost use Rattle.fm_cert.specs.Fields.{vector_word as word_of_vector};
-ghost use Rattle.fm_cert.specs.Naming.{grid_words, number_after};
-ghost use Rattle.fm_cert.specs.Parts.{forms_of, grid_value, words_of};
+ghost use Rattle.fm_cert.specs.Naming.{grid_words};
+ghost use Rattle.fm_cert.specs.Parts.{grid_value, words_of};
 ghost use Rattle.fm_cert.specs.Pieces.{AreColumnsOver, AreOverVariables, columns_of};
 ghost use Rattle.std.specs.Prelude.{decimal};
-ghost use lib.Pointwise.{pointwise};
 
 use crate::Grid;
 use crate::polynomials::push_parenthesized;
@@ -65,43 +63,5 @@ fn push_vectors(
         let word = vector_word(alloc, names, column)?;
         words.push(word)?;
         left = rest;
-    }
-}
-
-/// The number that a form has among the numbered forms, from 1 on.
-pub(crate) fn number_among(forms: &[Vec<Vec<u8>>], form: &[Vec<u8>]) -> Option<u64>
-    ensures { result ≡ number_after zero (forms_of forms.now) (words_of form.now) }
-{
-    let mut number = 0u64;
-    let mut left = forms;
-    'forms: loop {
-        let Some((first, rest)) = left.split_first() else {
-            return None;
-        };
-        number += 1;
-        if is_same_form(first, form) {
-            return Some(number);
-        }
-        left = rest;
-    }
-}
-
-fn is_same_form(a: &[Vec<u8>], b: &[Vec<u8>]) -> bool
-    ensures { result ≡ pointwise same_bytes (words_of a.now) (words_of b.now) }
-{
-    let mut a_left = a;
-    let mut b_left = b;
-    'words: loop {
-        let Some((a_word, a_rest)) = a_left.split_first() else {
-            return b_left.is_empty();
-        };
-        let Some((b_word, b_rest)) = b_left.split_first() else {
-            return false;
-        };
-        if a_word.as_slice() != b_word.as_slice() {
-            return false;
-        }
-        a_left = a_rest;
-        b_left = b_rest;
     }
 }

@@ -1,5 +1,5 @@
 // Lines of reports and certificates: what they say, how they are printed, and how they are read. The program writes them (`Line`, `End`,
-// `push_head`, `push_query`) and numbers the matrices that they name (`naming_lines`); what it writes is what the table says.
+// `push_head`, `push_query`) and numbers the matrices that they name (`Forms`); what it writes is what the table says.
 // A line costs a step for each of its bytes, and a matrix that is named a comparison with those before it in its query.
 //
 // The notions (specs/):
@@ -35,5 +35,5 @@ pub use end::End;
 pub use grid::{Grid, Naming, Slot};
 pub use heads::{push_head, push_query};
 pub use line::Line;
-pub use naming::naming_lines;
+pub use naming::Forms;
 pub use writing::push_lines;

@@ -5,7 +5,7 @@ ghost use Rattle.fm_cert.specs.Parts.{AreNamingsOver};
 ghost use Rattle.fm_cert.specs.Said.{IsEndOver};
 ghost use Rattle.fm_problem.specs.Sound.{IsProblem};
 
-use crate::{End, Grid, Naming, Slot, naming_lines, push_head, push_lines, push_query};
+use crate::{End, Forms, Grid, Naming, Slot, push_head, push_lines, push_query};
 use fm_mono::Mono;
 use fm_poly::{Poly, Ring, Term};
 use fm_problem::{Problem, Query, read_problem};
@@ -175,7 +175,9 @@ fn named(alloc: Global) -> Result<Vec<u8>, AllocError> {
         slot: Slot::K { s: 3 },
         grid: constant(alloc, problem.ring, 3)?,
     })?;
-    let lines = naming_lines(alloc, &problem, namings)?;
+    let mut forms = Forms::new(alloc);
+    let mut lines = Vec::new(alloc);
+    forms.push_names(alloc, &problem, namings, &mut lines)?;
     let mut out = Vec::new(alloc);
     push_lines(&problem, &lines, &mut out)?;
     Ok(out)

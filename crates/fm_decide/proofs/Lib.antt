@@ -1,6 +1,14 @@
+pub mod Copies
+pub mod Names
+pub mod Differentials
+pub mod SoundIdeals
+pub mod BlockLines
+pub mod EndedReports
 pub mod Loops
-pub mod Plans
 pub mod Whole
-pub mod MemberBlocks
-pub mod Reported
 pub mod FaultLines
+pub mod ExtNames
+pub mod Plans
+pub mod ClassBlocks
+pub mod Reported
+pub mod ExtReports

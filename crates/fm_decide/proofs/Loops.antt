@@ -1,11 +1,11 @@
 -- The blocks that are written, one query after another.
 use Rattle.std.proofs.Common.{◌≡◌, ◌≢◌, ◌≤◌, ◌+◌, ℕ, suc, Bool, true, false, ◌&&◌, List, [], ◌∷◌, ◌++◌, All, length, refl, sym, ap, ap₂, subst, ◌∙◌, append_assoc, append-nil, arith}
-use Rattle.std.specs.Prelude.{Option, Some, None}
 use Rattle.std.proofs.lemmas.List.{nil_from_length}
 use Rattle.std.proofs.lemmas.List.Elements.{All-head, All-tail}
 use Rattle.fm_poly.specs.Polys.{PolyValue}
-use Rattle.fm_poly.specs.declared.term.Term.{Term}
 use Rattle.fm_poly.specs.declared.ring.Ring.{Ring}
+use Rattle.fm_poly.specs.declared.term.Term.{Term}
+use Rattle.fm_term.specs.declared.vterm.VTerm.{VTerm}
 use Rattle.fm_vec.specs.Components.{column_terms, placed}
 use Rattle.fm_words.specs.Parts.{Bytes}
 use Rattle.fm_problem.specs.declared.problem.Problem.{Problem}
@@ -18,17 +18,12 @@ use Rattle.fm_cert.specs.Said.{IsQueryOver}
 use Rattle.fm_cert.proofs.LinesWritten.{no_lines, over_variables, text_append}
 use Rattle.fm_report.specs.Reports.{QueryReport, block_lines, query_lines}
 use Rattle.fm_report.specs.Sheets.{is_answer}
+use Rattle.fm_answers.specs.Answers.{are_answered}
+use Rattle.fm_decide.specs.Answers.{query_answer, answers}
 use Rattle.fm_decide.specs.declared.ended.Answer.{Answer}
-use Rattle.fm_decide.specs.Answers.{answers, are_answered, query_answer}
-use Rattle.fm_decide.specs.Given.{answer_report, given_reports}
+use Rattle.fm_decide.specs.Given.{answer_report}
 
--- ---- one query after another
 module _ (units : ℕ) (q : Problem) where
-  -- the reports of the queries that are left, the first of which has this answer
-  first_answers : (z : Query) (rest left : List Query) (o : Option Answer) → left ≡ z ∷ rest → given_reports q z o ≡ query_answer units q z
-      → answers units q left ≡ given_reports q z o ++ answers units q rest
-  first_answers z rest left o e g = ap (answers units q) e ∙ ap (λ bs. bs ++ answers units q rest) (sym g)
-
   abbrev Shown : Bytes → ℕ → List Query → Bytes
   Shown now number left = now ++ lines_text q.vars (query_lines q (number + 1) (answers units q left))
 
@@ -46,38 +41,24 @@ module _ (units : ℕ) (q : Problem) where
   regroup true b c = refl
   regroup false b c = refl
 
-  abbrev IsLeft : Bytes → Bool → ℕ → Bytes → Bool → List Query → Type 0
+  abbrev pub IsLeft : Bytes → Bool → ℕ → Bytes → Bool → List Query → Type 0
   IsLeft now all number whole total left =
-      (Shown now number left ≡ whole) × ((all && are_answered (answers units q left)) ≡ total)
-      × All (IsQueryOf q) left × All (λ z. is_built q.ideals z ≡ true) left × (number + length left ≤ length q.queries)
+      (Shown now number left ≡ whole) × ((all && are_answered (answers units q left)) ≡ total) × All (IsQueryOf q) left × All (λ z. is_built q.ideals z ≡ true) left × (number + length left ≤ length q.queries)
 
-  -- a query with an answer
-  pub answered : (z : Query) (rest left : List Query) (o : Option Answer) (a : Answer) (number : ℕ) (old new whole : Bytes) (all done new_all total : Bool)
-      → left ≡ z ∷ rest → given_reports q z o ≡ query_answer units q z → o ≡ Some a
+  -- a query is answered
+  pub answered : (z : Query) (rest left : List Query) (a : Answer) (number : ℕ) (old new whole : Bytes) (all done new_all total : Bool)
+      → left ≡ z ∷ rest → answer_report q z a ≡ query_answer units q z
       → new ≡ old ++ lines_text q.vars (block_lines q (number + 1) (answer_report q z a)) → done ≡ is_answer (answer_report q z a).kind
       → new_all ≡ (all && done) → IsLeft old all number whole total left → IsLeft new new_all (number + 1) whole total rest
-  answered z rest left o a number old new whole all done new_all total e g is n d na h =
+  answered z rest left a number old new whole all done new_all total e g n d na h =
       let b : QueryReport = answer_report q z a in
-      let cut : answers units q left ≡ b ∷ answers units q rest = first_answers z rest left o e g ∙ ap (λ x. given_reports q z x ++ answers units q rest) is in
+      let cut : answers units q left ≡ b ∷ answers units q rest = ap (answers units q) e ∙ ap (λ b. b ∷ answers units q rest) (sym g) in
       let count : number + length (z ∷ rest) ≤ length q.queries = subst (λ l. number + length l ≤ length q.queries) e h.4 in (
         query_written z rest left b number old new whole cut n h.0,
         ap (λ x. x && are_answered (answers units q rest)) (na ∙ ap (λ x. all && x) d) ∙ regroup all (is_answer b.kind) (are_answered (answers units q rest))
             ∙ ap (λ bs. all && are_answered bs) (sym cut) ∙ h.1,
         All-tail (IsQueryOf q) z rest (subst (All (IsQueryOf q)) e h.2),
-        All-tail (λ z. is_built q.ideals z ≡ true) z rest (subst (All (λ z. is_built q.ideals z ≡ true)) e h.3),
-        omega (arith, count),
-      )
-
-  -- a query without an answer
-  pub skipped : (z : Query) (rest left : List Query) (o : Option Answer) (number : ℕ) (now whole : Bytes) (all total : Bool) → left ≡ z ∷ rest
-      → given_reports q z o ≡ query_answer units q z → o ≡ None → IsLeft now all number whole total left → IsLeft now all number whole total rest
-  skipped z rest left o number now whole all total e g is h =
-      let cut : answers units q left ≡ answers units q rest = first_answers z rest left o e g ∙ ap (λ x. given_reports q z x ++ answers units q rest) is in
-      let count : number + length (z ∷ rest) ≤ length q.queries = subst (λ l. number + length l ≤ length q.queries) e h.4 in (
-        ap (λ bs. now ++ lines_text q.vars (query_lines q (number + 1) bs)) (sym cut) ∙ h.0,
-        ap (λ bs. all && are_answered bs) (sym cut) ∙ h.1,
-        All-tail (IsQueryOf q) z rest (subst (All (IsQueryOf q)) e h.2),
-        All-tail (λ z. is_built q.ideals z ≡ true) z rest (subst (All (λ z. is_built q.ideals z ≡ true)) e h.3),
+        All-tail (λ x. is_built q.ideals x ≡ true) z rest (subst (All (λ x. is_built q.ideals x ≡ true)) e h.3),
         omega (arith, count),
       )
 
@@ -107,11 +88,11 @@ query_over q (queries.TheVariants.Member k f) of = ap (λ (x : Ring). x.vars) (s
 query_over q (queries.TheVariants.Resolution i k) of = tt
 query_over q (queries.TheVariants.ExtOf i k) of = tt
 
--- the column of one nonzero polynomial isn't zero
+-- one polynomial that isn't zero makes a column that isn't
+placed_some : (ts : List Term) (more : List VTerm) → ts ≢ [] → placed 1 ts ++ more ≢ []
+placed_some [] more h e = h refl
+placed_some (t ∷ ts) more h e = cc
+
 pub nonzero_column : (fs : List PolyValue) → length fs ≡ 1 → All (λ f. f.terms ≢ []) fs → column_terms 1 fs ≢ []
 nonzero_column [] e all h = absurd (omega (arith, e))
-nonzero_column (f ∷ fs) e all h = of f.terms (All-head (λ (f : PolyValue). f.terms ≢ []) f fs all) h
-  where
-    of : (ts : List Term) → (ts ≢ []) → placed 1 ts ++ column_terms 2 fs ≡ [] → ⊥
-    of [] some h = some refl
-    of (t ∷ ts) some h = cc
+nonzero_column (f ∷ fs) e all h = placed_some f.terms (column_terms 2 fs) (All-head (λ (f : PolyValue). f.terms ≢ []) f fs all) h

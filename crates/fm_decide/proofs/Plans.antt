@@ -1,5 +1,5 @@
 -- In which tasks the plan of a class can halt, and what it ends with.
-use Rattle.std.proofs.Common.{◌≡◌, ◌∙◌, ℕ, zero, suc, List, [], ◌∷◌, ◌++◌, All, map, length, true, slice_get, Some, Ok, sym, ap, subst, arith}
+use Rattle.std.proofs.Common.{◌≡◌, ◌≢◌, ◌<◌, ◌∙◌, ℕ, zero, suc, false, List, [], ◌∷◌, ◌++◌, All, map, length, true, slice_get, Option, Some, None, Ok, sym, ap, subst, arith}
 use Rattle.std.specs.Prelude.{Vec}
 use Rattle.std.specs.Global.{Global}
 use Rattle.std.proofs.lemmas.Bool.{and_parts, eqb-true}
@@ -26,6 +26,7 @@ use Rattle.fm_run.specs.Tasks.{HaltedTask, named, task_run}
 use Rattle.fm_complete.specs.Divisions.{DivisionValue}
 use Rattle.fm_term.specs.Falling.{head_of}
 use Rattle.std.specs.Prelude.{is_none}
+use Rattle.fm_answers.specs.Answers.{generators_of, generators_at}
 use Rattle.fm_principal.specs.Plans.{Decided, class_plan, column_vector, lift_run, lift_task, stage_run, stage_task}
 
 -- the task of a halt is one of these
@@ -90,24 +91,23 @@ namings_over n a b c d v0 v1 v2 v3 v4 e0 e1 e2 e3 e4 oa ob oc od =
     (sym (e4 ∙ ap (λ v. v ++ d ∷ []) (e3 ∙ ap (λ v. v ++ c ∷ []) (e2 ∙ ap (λ v. v ++ b ∷ []) (e1 ∙ ap (λ v. v ++ a ∷ []) e0)))))
     (oa, (ob, (oc, (od, tt))))
 
-pub naming_over : (n : ℕ) (a : Naming) (v0 v1 : List Naming) → v0 ≡ [] → v1 ≡ v0 ++ a ∷ [] → AreColumnsOver n a.grid.columns.items → AreNamingsOver n v1
-naming_over n a v0 v1 e0 e1 over = subst (AreNamingsOver n) (sym (e1 ∙ ap (λ v. v ++ a ∷ []) e0)) (over, tt)
-
 -- ---- ideals of a problem
 
--- an ideal of the list is sound
-pub sound_ideal : (r : Ring) (is : List Ideal) (m : ℕ) (a : Ideal) → slice_get is m ≡ Some a → All (IsIdealOf r) is → IsIdealOf r a
-sound_ideal r [] m a e all = absurd (cc)
-sound_ideal r (j ∷ is) zero a e all = subst (IsIdealOf r) (Some-same e) (All-head (IsIdealOf r) j is all)
-sound_ideal r (j ∷ is) (suc m) a e all = sound_ideal r is m a e (All-tail (IsIdealOf r) j is all)
-
-pub are_over : (r : Ring) (fs : List PolyValue) → All (IsPolynomialOf r) fs → AreOver r fs
-are_over r [] all = tt
-are_over r (f ∷ fs) all = ((All-head (IsPolynomialOf r) f fs all).of_ring, are_over r fs (All-tail (IsPolynomialOf r) f fs all))
+-- the generators of an ideal of the list are polynomials of the ring, and not zero
+pub sound_generators : (q : Problem) (m : ℕ) → m < length q.ideals → All (IsIdealOf q.ring) q.ideals → All (IsPolynomialOf q.ring) (generators_at q m) × All (λ (f : PolyValue). f.terms ≢ []) (generators_at q m)
+sound_generators q m there all = by q.ideals m there all
+  where
+    by : (is : List Ideal) (m : ℕ) → m < length is → All (IsIdealOf q.ring) is → All (IsPolynomialOf q.ring) (generators_of (slice_get is m)) × All (λ (f : PolyValue). f.terms ≢ []) (generators_of (slice_get is m))
+    by [] m there all = absurd (omega (arith, there))
+    by (j ∷ is) zero there all = let sound = All-head (IsIdealOf q.ring) j is all in (sound.of_ring, sound.nonzero)
+    by (j ∷ is) (suc m) there all = by is m (omega (arith, there)) (All-tail (IsIdealOf q.ring) j is all)
 
 -- a class that can be answered has one generator and one entry
-pub built_parts : (q : Problem) (i m e : ℕ) (z : List PolyValue) (a : Ideal) → slice_get q.ideals m ≡ Some a
-    → is_built q.ideals (queries.TheVariants.Class i m e z) ≡ true → (length a.generators ≡ 1) × (length z ≡ 1)
-built_parts q i m e z a there built =
+pub built_parts : (q : Problem) (i m e : ℕ) (z : List PolyValue) → is_built q.ideals (queries.TheVariants.Class i m e z) ≡ true → (length (generators_at q m) ≡ 1) × (length z ≡ 1)
+built_parts q i m e z built =
     let parts = and_parts _ _ (and_parts _ _ built).1 in
-    (eqb-true (length a.generators) 1 (subst (λ o. is_principal o ≡ true) there parts.0), eqb-true (length z) 1 parts.1)
+    (one (slice_get q.ideals m) parts.0, eqb-true (length z) 1 parts.1)
+  where
+    one : (o : Option Ideal) → is_principal o ≡ true → length (generators_of o) ≡ 1
+    one None h = absurd (let e : false ≡ true = h in cc)
+    one (Some a) h = eqb-true (length a.generators) 1 h

@@ -1,5 +1,5 @@
 -- The program's answers, as the reports that they give.
-use Rattle.std.specs.Prelude.{ℕ, List, [], ◌∷◌, Option, Some, None}
+use Rattle.std.specs.Prelude.{ℕ}
 use Rattle.fm_problem.specs.declared.problem.Problem.{Problem}
 use Rattle.fm_problem.specs.declared.query.Query.{Query}
 use Rattle.fm_cert.specs.Ends.{end_kind, end_values}
@@ -11,15 +11,7 @@ use Rattle.fm_decide.specs.declared.ended.Answer.{Answer}
 abbrev pub answer_report : Problem → Query → Answer → QueryReport
 answer_report q z a = record { question = z; kind = end_kind a.end; values = end_values a.end; lines = line_values q a.lines.items }
 
-abbrev pub given_reports : Problem → Query → Option Answer → List QueryReport
-given_reports q z None = []
-given_reports q z (Some a) = answer_report q z a ∷ []
-
 -- what is printed is over n variables
 pub record IsAnswerOver (n : ℕ) (a : Answer) : Type 0 where
   pub end : IsEndOver n a.end
   pub lines : AreLinesOver n a.lines.items
-
-abbrev pub IsGivenOver : ℕ → Option Answer → Type 0
-IsGivenOver n None = Unit {0}
-IsGivenOver n (Some a) = IsAnswerOver n a

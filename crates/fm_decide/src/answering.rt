@@ -3,17 +3,20 @@ ghost use Rattle.std.specs.Prelude.{IfOk, OnOk, true, ◌++◌, ◌<◌, ◌^◌
 ghost use Rattle.fm_cert.specs.Ends.{end_kind};
 ghost use Rattle.fm_cert.specs.Lines.{lines_text};
 ghost use Rattle.fm_cert.specs.Said.{IsQueryOver};
-ghost use Rattle.fm_decide.specs.Answers.{answers, are_answered, query_answer, report_bytes};
-ghost use Rattle.fm_decide.specs.Given.{IsAnswerOver, IsGivenOver, answer_report, given_reports};
+ghost use Rattle.fm_answers.specs.Answers.{are_answered};
+ghost use Rattle.fm_decide.specs.Answers.{answers, query_answer, report_bytes};
 ghost use Rattle.fm_problem.specs.Problems.{is_built};
+ghost use Rattle.fm_decide.specs.Given.{IsAnswerOver, answer_report};
 ghost use Rattle.fm_problem.specs.Sound.{IsProblem, IsQueryOf};
 ghost use Rattle.fm_report.specs.Reports.{block_lines, query_lines};
 ghost use Rattle.fm_report.specs.Sheets.{is_answer as answers_query};
 
 use crate::Answers;
-use crate::classes::answer_class;
+use crate::class::answer_class;
 use crate::ended::Answer;
-use crate::members::answer_member;
+use crate::ext::answer_ext;
+use crate::member::answer_member;
+use crate::resolution::answer_resolution;
 use fm_cert::{End, Line, push_head, push_lines, push_query};
 use fm_problem::{Problem, Query};
 use std::alloc::{AllocError, Global};
@@ -51,9 +54,7 @@ fn push_queries(
             return Ok(all);
         };
         left = rest;
-        let Some(answer) = answer_query(alloc, problem, units, query)? else {
-            continue 'queries;
-        };
+        let answer = answer_query(alloc, problem, units, query)?;
         number += 1;
         push_block(problem, number, query, &answer, out)?;
         let answered = is_answer(&answer.end);
@@ -61,31 +62,31 @@ fn push_queries(
     }
 }
 
-// The answer to a query, with this number of units for its plan; None where there are no plans for queries of its kind.
+// The answer to a query, with this number of units for its plan.
 fn answer_query(
     alloc: Global,
     problem: &Problem,
     units: u32,
     query: &Query,
-) -> Result<Option<Answer>, AllocError>
+) -> Result<Answer, AllocError>
     requires problem { IsProblem problem.now }
     requires query { IsQueryOf problem.now query.now }
     requires built { is_built problem.now.ideals query.now ≡ true }
-    ensures value { IfOk result (λ given. given_reports problem.now query.now given ≡ query_answer units problem.now query.now) }
-    ensures over { IfOk result (IsGivenOver problem.now.ring.vars) }
+    ensures value { IfOk result (λ a. answer_report problem.now query.now a ≡ query_answer units problem.now query.now) }
+    ensures over { IfOk result (IsAnswerOver problem.now.ring.vars) }
 {
     match query {
+        Query::Resolution { i, ideal } => answer_resolution(alloc, problem, units, *i, *ideal),
         Query::Class { i, ideal, e, z } => {
             answer_class(alloc, problem, units, *i, *ideal, *e, z.as_slice())
         }
+        Query::ExtOf { i, ideal } => answer_ext(alloc, problem, units, *i, *ideal),
         Query::Member { ideal, f } => answer_member(alloc, problem, units, *ideal, f),
         Query::Zero { .. }
         | Query::Root { .. }
         | Query::Invert { .. }
         | Query::Support { .. }
-        | Query::Map { .. }
-        | Query::Resolution { .. }
-        | Query::ExtOf { .. } => Ok(None),
+        | Query::Map { .. } => Err(AllocError),
     }
 }
 

@@ -4,11 +4,17 @@
 
 mod answering;
 mod answers;
-mod classes;
+mod blocks;
+mod class;
 mod ended;
+mod ext;
 mod grids;
+mod ideals;
 pub mod laws;
-mod members;
+mod member;
+mod printing;
+mod resolution;
+mod series;
 
 pub use answering::answer;
 pub use answers::Answers;

@@ -123,7 +123,7 @@ module _ (r : Ring) where
   no_terms (t ∷ ts) e = cc
 
   -- the zero vector lies in every span
-  zero_spanned : (m : ℕ) (vs : List Vec) (v : Vec) → length v ≡ m → is_zero (terms_of r v) ≡ true → Span m vs v
+  pub zero_spanned : (m : ℕ) (vs : List Vec) (v : Vec) → length v ≡ m → is_zero (terms_of r v) ≡ true → Span m vs v
   zero_spanned m vs v l e = image_of r.prime r.vars m r.order vs v l
       (lin_zero (λ b. ap (λ u. vector_value r.prime r.vars m r.order u b) (sym (terms_mean r m v l) ∙ ap (vector_of r.prime r.vars m) (no_terms (terms_of r v) e)) ∙ val_nil r.prime r.vars m r.order b))
 

@@ -15,7 +15,7 @@ use Rattle.fm_plan.proofs.Following.{plan_follows}
 use Rattle.fm_graphs.specs.Graphs.{MatrixOf, Graph}
 use Rattle.fm_plan.specs.Tasks.{Plan, task}
 use Rattle.fm_plan.specs.Base.{lift_work, lifting}
-use Rattle.fm_lift.specs.Lifts.{after_the_first}
+use Rattle.fm_lift.specs.Lifts.{AreMatricesOver, after_the_first}
 use Rattle.fm_lift.proofs.Chains.{chained}
 use Rattle.fm_lift.proofs.Products.{work_spends}
 
@@ -26,6 +26,10 @@ Begins x xs = xs ≡ x ∷ after_the_first xs
 pub still_begins : {A : Type 0} (x : A) (xs ys : List A) → Begins x xs → Begins x (xs ++ ys)
 still_begins x [] ys h = cc
 still_begins x (y ∷ xs) ys h = ap (λ zs. zs ++ ys) h
+
+pub over_more : (r : Ring) (ms : List MatrixValue) (m : MatrixValue) → AreMatricesOver r ms → m.ring ≡ r → AreMatricesOver r (ms ++ m ∷ [])
+over_more r [] m h e = (e, tt)
+over_more r (n ∷ ms) m h e = (h.0, over_more r ms m h.1 e)
 
 -- what stands in a list of values from a place on
 pub dropped : {A B : Type 0} (f : A → B) (xs : List A) (i : ℕ) (x : A) → x ≡ get_or xs i x → i < length xs → drop i (map f xs) ≡ f x ∷ drop (suc i) (map f xs)

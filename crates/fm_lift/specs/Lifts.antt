@@ -13,6 +13,11 @@ abbrev pub after_the_first : {A : Type 0} → List A → List A
 after_the_first [] = []
 after_the_first (x ∷ xs) = xs
 
+-- matrices over r
+abbrev pub AreMatricesOver : Ring → List MatrixValue → Type 0
+AreMatricesOver r [] = Unit {0}
+AreMatricesOver r (m ∷ ms) = (m.ring ≡ r) × AreMatricesOver r ms
+
 abbrev pub AreGraphs : List GraphValue → Type 0
 AreGraphs [] = Unit {0}
 AreGraphs (g ∷ gs) = IsGraph g × AreGraphs gs

@@ -3,7 +3,7 @@ ghost use Rattle.std.specs.Prelude.{IfOk, List, OnOk, [], ◌++◌, ◌∷◌, �
 ghost use Rattle.fm_algebra.specs.PolynomialMatrices.{matrix_unit};
 ghost use Rattle.fm_graphs.specs.Graphs.{MatrixOf};
 ghost use Rattle.fm_limit.specs.ResolvedIdeal.{IsFrobeniusLiftOf, IsResolutionOf};
-ghost use Rattle.fm_lift.specs.Lifts.{AreGraphs, AreGraphsFrom, AreInARow, after_the_first, graphs_meaning, matrices_meaning};
+ghost use Rattle.fm_lift.specs.Lifts.{AreGraphs, AreGraphsFrom, AreInARow, AreMatricesOver, after_the_first, graphs_meaning, matrices_meaning};
 ghost use Rattle.fm_mat.specs.Matrices.{matrix_meaning};
 ghost use Rattle.fm_plan.specs.Base.{lift_work, lifting};
 ghost use Rattle.fm_plan.specs.Results.{Ideal};
@@ -35,6 +35,7 @@ pub fn frobenius_lift(
         (lifting ring side 1 (matrix_unit ring.prime ring.vars 1) (graphs_meaning ring (map (λ g. g.now) graphs.now)) work.old) }
     ensures first { IfOk result (λ ts. matrices_meaning ring ts.items
         ≡ matrix_unit ring.prime ring.vars 1 ∷ after_the_first (matrices_meaning ring ts.items)) }
+    ensures rings { IfOk result (λ ts. AreMatricesOver ring ts.items) }
     ensures lifts { (fs : Ideal ring) (i : ℕ) (ds : List (MatrixOf ring)) → IsResolutionOf ring.prime ring.vars fs i ds → length graphs.now ≤ i
         → AreGraphsFrom ring ds 0 (map (λ g. g.now) graphs.now)
         → IfOk result (λ ts. IsFrobeniusLiftOf ring.prime ring.vars (length graphs.now) ds (matrices_meaning ring ts.items)) }

@@ -74,8 +74,9 @@ fn twisted(alloc: Global, a: &Matrix) -> Result<Matrix, Stop>
     }
 }
 
+/// The product a * b, in a run: it spends no unit, and may pass the bound on exponents.
 #[tactic(auto, unfolding(fm_graphs::specs::Bounds::multiplied))]
-fn product(alloc: Global, a: &Matrix, b: &Matrix) -> Result<Matrix, Stop>
+pub fn product(alloc: Global, a: &Matrix, b: &Matrix) -> Result<Matrix, Stop>
     requires ring { b.now.ring ≡ a.now.ring }
     requires inner { b.now.rows ≡ length a.now.columns }
     ensures follows { (r : Ring) (units : ℕ) → a.now.ring ≡ r → Follows (matrix_meaning r) result units units

@@ -109,11 +109,11 @@ module _ (r : Ring) where
       only v i = elim (in_cases (f ∷ []) [] v i) [ inl e ↦ sym e | inr j ↦ elim j [ ] ]
 
   -- ---- support
-  unit_shape : (g : ℕ) → HasShape p n (g * g) 1 (unit_column p n g)
+  pub unit_shape : (g : ℕ) → HasShape p n (g * g) 1 (unit_column p n g)
   unfolding HasShape unit_column
   unit_shape g = table_shaped (polynomials p n) (g * g) 1 (g * g) 1 (λ i j. cond (eqb (i / g) (i % g)) (polynomials p n).one (polynomials p n).zero) refl refl
 
-  blocks_shape : (K : MatrixOf r) → HasShape p n (K.rows * K.rows) (K.rows * length K.columns) (diagonal_blocks p n K)
+  pub blocks_shape : (K : MatrixOf r) → HasShape p n (K.rows * K.rows) (K.rows * length K.columns) (diagonal_blocks p n K)
   unfolding HasShape diagonal_blocks
   blocks_shape K = table_shaped (polynomials p n) (K.rows * K.rows) (K.rows * length K.columns) (K.rows * K.rows) (K.rows * length K.columns)
       (λ i j. cond (eqb (i / K.rows) (j / length K.columns)) (entry (polynomials p n) K (i % K.rows) (j % length K.columns)) (polynomials p n).zero) refl refl

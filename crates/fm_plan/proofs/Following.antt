@@ -7,7 +7,7 @@ use Rattle.fm_run.specs.declared.task.Task.{Task}
 use Rattle.fm_run.specs.declared.task.Stopped.{Stopped}
 use Rattle.fm_run.specs.Runs.{Halt, Ending, Work, Halts, Follows, halt_of}
 use Rattle.fm_run.specs.Tasks.{named, stopped_in}
-use Rattle.fm_plan.specs.Tasks.{Unanswered, stopped, task}
+use Rattle.fm_plan.specs.Tasks.{stopped, task}
 use Rattle.fm_plan.specs.Following.{FollowsPlan}
 
 module _ {A X : Type 0} (view : X → A) (side : Side) (name : Name) (number old new : ℕ) (work : Work A) where

@@ -1,5 +1,5 @@
 -- The plan of an induced map answers rightly.
-use Rattle.std.proofs.Common.{ℕ, ◌+◌, ◌≡◌, ◌↔◌, true, Option, Some, None, List, ◌∷◌, take, length, refl, sym, ap, ◌∙◌, subst, subst₂, arith}
+use Rattle.std.proofs.Common.{ℕ, ◌+◌, ◌≡◌, ◌↔◌, true, None, List, ◌∷◌, take, length, sym, ap, ◌∙◌, subst, subst₂, arith}
 use Rattle.fm_gfp.specs.declared.prime.Prime.{Prime}
 use Rattle.fm_algebra.specs.PolynomialMatrices.{HasShape, GeneratesPreimage, matrix_unit}
 use Rattle.fm_limit.specs.ResolvedIdeal.{ResolvedIdeal, matrix_at, row}
@@ -11,23 +11,19 @@ use Rattle.fm_poly.specs.declared.ring.Ring.{Ring}
 use Rattle.fm_run.specs.Runs.{ready, ◌>>=◌}
 use Rattle.fm_graphs.specs.Graphs.{MatrixOf, Inside, width, inside_run}
 use Rattle.fm_graphs.specs.Trims.{Preimage, preimage_run}
-use Rattle.fm_run.proofs.Ends.{Ends, same_value, no_value, bound}
+use Rattle.fm_run.proofs.Ends.{Ends, same_value, bound}
 use Rattle.fm_graphs.proofs.Lifts.{inside_is}
 use Rattle.fm_graphs.proofs.Preimages.{preimage_run_is}
 use Rattle.fm_run.specs.declared.task.Side.TheVariants.{Alone, Source, Target}
-use Rattle.fm_plan.specs.Tasks.{refused, not_contained, task}
+use Rattle.fm_plan.specs.Tasks.{not_contained, task}
 use Rattle.fm_plan.specs.Results.{Ideal, graphs_of, differentials_of, resolved, kernels, stable_index}
-use Rattle.fm_plan.specs.Queries.{BaseOf, base_plan, is_yes, contained_work, contained_or, over_identity, fibre_work, phi_work, compared, mapped, Onto, onto_at, never_onto, onto_plan, onto_of, Found, found_map, ask_map, plan, verdict}
-use Rattle.fm_plan.proofs.Tasks.{task_ends}
+use Rattle.fm_plan.specs.Queries.{BaseOf, base_plan, is_yes, contained_work, unless, over_identity, fibre_work, phi_work, compared, mapped, Onto, onto_at, never_onto, onto_plan, onto_of, Found, found_map, ask_map, plan, verdict}
+use Rattle.fm_plan.proofs.Tasks.{task_ends, unless_ends}
 use Rattle.fm_plan.proofs.Lifting.{graphs_at}
 use Rattle.fm_plan.proofs.Bases.{Based, base_is, says_decides}
 use Rattle.fm_plan.proofs.Identities.{contained_is, identity_is, phi_is}
 use Rattle.fm_plan.proofs.Joining.{OntoSays, onto_is}
 use Rattle.fm_run.specs.declared.task.Name.TheVariants as names
-
-contained_ends : (r : Ring) (o : Option ℕ) (units left : ℕ) (u : Unit {0}) → Ends (contained_or r o units) u left → o ≡ None
-contained_ends r None units left u e = refl
-contained_ends r (Some k) units left u e = absurd (no_value (refused (not_contained k)) u units left e)
 
 module _ (r : Ring) (i : ℕ) (fs gs : Ideal r) (b c : BaseOf r) (B : Based r i fs b) (C : Based r i gs c) (contained : ColumnsInImage r.prime r.vars (row r.prime r.vars fs) (row r.prime r.vars gs)) where
   abbrev p : Prime
@@ -151,9 +147,9 @@ unfolding plan
 map_right r i fs gs units left x ends =
     let work = contained_work r fs gs in
     let targets = λ (b : BaseOf r). base_plan r Target i gs >>= mapped r i fs gs b in
-    let a0 = bound (task Alone names.Contained 0 work >>= contained_or r) (λ u. base_plan r Source i fs >>= targets) units left x ends in
-    let a = bound (task Alone names.Contained 0 work) (contained_or r) units a0.between a0.value a0.first in
-    let none : a.value ≡ None = contained_ends r a.value a.between a0.between a0.value a.second in
+    let a0 = bound (task Alone names.Contained 0 work >>= unless r not_contained) (λ u. base_plan r Source i fs >>= targets) units left x ends in
+    let a = bound (task Alone names.Contained 0 work) (unless r not_contained) units a0.between a0.value a0.first in
+    let none : a.value ≡ None = unless_ends r not_contained a.value a.between a0.between a0.value a.second in
     let contained = contained_is r fs gs units a.between (subst (λ o. Ends (work units) o a.between) none (task_ends Alone names.Contained 0 work units a.between a.value a.first)) in
     let sb = bound (base_plan r Source i fs) targets a0.between left x a0.second in
     let tb = bound (base_plan r Target i gs) (mapped r i fs gs sb.value) sb.between left x sb.second in

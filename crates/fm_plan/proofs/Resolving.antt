@@ -81,7 +81,7 @@ module _ (r : Ring) where
     pub long : length x.next ≡ i
     pub resolution : IsResolutionOf r.prime r.vars fs i (differentials_of r x)
 
-  resolved_from : (i : ℕ) (fs : Ideal r) (g : Graph r) (xs : List (Preimage r)) → IsCompletedGraph r g → g.matrix ≡ row r.prime r.vars fs → Resolves g xs → length xs ≡ i → IsResolutionOf r.prime r.vars fs i (matrices_from g xs)
+  pub resolved_from : (i : ℕ) (fs : Ideal r) (g : Graph r) (xs : List (Preimage r)) → IsCompletedGraph r g → g.matrix ≡ row r.prime r.vars fs → Resolves g xs → length xs ≡ i → IsResolutionOf r.prime r.vars fs i (matrices_from g xs)
   unfolding matrix_at InIdeal
   resolved_from i fs g xs G e R l = record {
     count = count_from g xs ∙ ap suc l ∙ omega arith;

@@ -1,5 +1,5 @@
 -- The sizes of what plans of one ideal find are within their units and what is asked with.
-use Rattle.std.proofs.Common.{ℕ, zero, suc, ◌+◌, ◌==◌, ◌<◌, ◌≤◌, ◌≡◌, if◌then◌else◌, Bool, true, false, Option, Some, None, List, [], ◌∷◌, map, length, take, refl, ◌∙◌, subst, arith}
+use Rattle.std.proofs.Common.{ℕ, zero, suc, ◌+◌, ◌==◌, ◌<◌, ◌≤◌, ◌≡◌, if◌then◌else◌, Bool, true, false, Option, Some, None, List, [], ◌∷◌, map, length, take, get_or, refl, ◌∙◌, subst, arith}
 use Rattle.std.proofs.lemmas.List.{length-append, length-map}
 use Rattle.std.proofs.lemmas.List.FromFn.{length-map-range_with_len}
 use Rattle.fm_algebra.specs.Matrix.{column_matrix, scalar_matrix, table, listed}
@@ -9,17 +9,17 @@ use Rattle.fm_limit.specs.ResolvedIdeal.{matrix_at, row}
 use Rattle.fm_limit.specs.Facts.{unit_column, diagonal_blocks}
 use Rattle.fm_poly.specs.declared.ring.Ring.{Ring}
 use Rattle.fm_complete.specs.Reductions.{Reduced}
-use Rattle.fm_run.specs.Runs.{Spends, ready, ◌>>=◌}
+use Rattle.fm_run.specs.Runs.{Halt, Spends, ready, ◌>>=◌}
 use Rattle.fm_run.specs.Turns.{Turn, last}
 use Rattle.fm_run.proofs.Ends.{Ends, same_value, no_value, bound}
 use Rattle.fm_run.proofs.Counting.{same_left, same_end, left_of, LeadsLeft, turns_lead_left}
 use Rattle.fm_run.proofs.Spending.{then_spends}
-use Rattle.std.specs.List.{list_all}
+use Rattle.fm_complete.specs.Completions.{numbers}
 use Rattle.fm_complete.proofs.Meanings.{length_components}
 use Rattle.fm_graphs.specs.Bounds.{multiplied, twisted_matrix}
-use Rattle.fm_graphs.specs.Listing.{VectorOf, terms_of}
-use Rattle.fm_graphs.specs.Graphs.{MatrixOf, Graph, Outside, Inside, all_inside, first_outside, width, graph_run, lift_run, is_inside, lower_block, solution, lifted, inside_run, whole_run, twisted_graph}
-use Rattle.fm_graphs.specs.Trims.{Preimage, is_zero, preimage_run}
+use Rattle.fm_graphs.specs.Listing.{VectorOf}
+use Rattle.fm_graphs.specs.Graphs.{MatrixOf, Graph, Outside, Inside, all_inside, first_outside, width, graph_run, lift_run, is_inside, lower_block, solution, with_solution, lifted, inside_run, whole_run, twisted_graph}
+use Rattle.fm_graphs.specs.Trims.{Preimage, preimage_run}
 use Rattle.fm_graphs.specs.Sizes.{IsMatrixAtMost, IsInsideAtMost, IsPreimageAtMost}
 use Rattle.fm_graphs.proofs.Spending.{preimage_spends, twist_spends}
 use Rattle.fm_graphs.proofs.Sizes.{lifted_size, inside_size, whole_size, whole_spends, twisted_graph_width, multiplied_spends, IsPaid, inside_paid, whole_paid, inside_at_most, preimage_size}
@@ -27,7 +27,7 @@ use Rattle.fm_run.specs.declared.task.Side.TheVariants.{Alone}
 use Rattle.fm_plan.specs.Tasks.{Refusal, refused, wrong_length, not_a_cocycle, task, out_of_units}
 use Rattle.fm_plan.specs.Results.{Resolution, Ideal, Killed, killed_at, never_killed, differentials_of, stable_index}
 use Rattle.fm_plan.specs.Base.{resolution_plan, ext_plan}
-use Rattle.fm_plan.specs.Queries.{BaseOf, base_of, base_plan, stable_graph, allowed, cocycle_work, lift_at, solution_at, outside_at, stages, chain_graphs, Colons, Coloned, whole_at, stable_at, colon_settled, colon_next, colon_turn, coloned, power_run, before_power, inverted_of, Inverted, by_power, never_inverted, Found, found_zero, found_class, found_root, found_invert, found_support, found_resolution, found_ext, found_member, ask_zero, ask_class, ask_root, ask_invert, ask_support, ask_resolution, ask_ext, ask_member, plan}
+use Rattle.fm_plan.specs.Queries.{BaseOf, base_of, base_plan, stable_graph, allowed, cocycle_work, lift_at, solution_of, killed_or, unless, first_nonzero, stages, chain_graphs, Colons, Coloned, whole_at, stable_at, colon_settled, colon_next, colon_turn, coloned, power_run, before_power, inverted_of, Inverted, by_power, never_inverted, Found, found_zero, found_class, found_root, found_invert, found_support, found_resolution, found_ext, found_member, ask_zero, ask_class, ask_root, ask_invert, ask_support, ask_resolution, ask_ext, ask_member, plan}
 use Rattle.fm_plan.specs.Sizes.{ArePreimagesAtMost, IsInvertedAtMost, IsKilledAtMost, HasSizes}
 use Rattle.fm_plan.proofs.Tasks.{task_ends}
 use Rattle.fm_plan.proofs.SizesOfBases.{AreGraphsAtMost, graphs_taken, graphs_next, preimages_more, row_at_most, graph_at_most, resolution_sizes, ext_sizes, base_of_sizes, base_sizes}
@@ -112,29 +112,34 @@ module _ (r : Ring) (most : ℕ) where
   solution_length : (g : Graph r) (x : Reduced) → length (solution r g x) ≡ width r g
   solution_length g x = length-map (lower_block r g.matrix.rows (width r g) x.rest) (polynomial_negative r.prime r.vars) ∙ length_components r (width r g) (suc g.matrix.rows) x.rest
 
-  coordinates_length : (e : ℕ) (g : Graph r) (z : VectorOf r) (units left : ℕ) (y : Graph r × Reduced) → Ends (lift_at r e g z units) y left → length (solution_at r y) ≡ width r g
-  unfolding lift_at
+  -- a solution is as long as the matrix is wide, and there is none outside
+  coordinates_length : (e : ℕ) (g : Graph r) (z : VectorOf r) (units left : ℕ) (y : Inside r) → Ends (lift_at r e g z units) y left → length (solution_of r y) ≤ width r g
+  unfolding lift_at inside_run matrix_column column_matrix
   coordinates_length e g z units left y ends =
-      let a = bound (twisted_graph r e g) (λ h. lift_run r h z >>= λ x. ready (h, x)) units left y ends in
-      let b = bound (lift_run r a.value z) (λ x. ready (a.value, x)) a.between left y a.second in
-      subst (λ (y : Graph r × Reduced). length (solution_at r y) ≡ width r g) {x = (a.value, b.value)} (same_value (a.value, b.value) y b.between left b.second)
-      (solution_length a.value b.value ∙ twisted_graph_width r e g units a.between a.value a.first)
+      let a = bound (twisted_graph r e g) (inside_run r (matrix_column r.prime r.vars z)) units left y ends in
+      let h = a.value in
+      let b = bound (lift_run r h z) (λ (x : Reduced). if is_inside r h x then (ready (all_inside []) >>= λ y. ready (with_solution r (solution r h x) y)) else ready (first_outside (record { column = 1; by = numbers x.steps; rest = x.rest }))) a.between left y a.second in
+      let wide = twisted_graph_width r e g units a.between h a.first in
+      go h b.value b.between (let l = solution_length h b.value in omega (arith, l, wide)) (is_inside r h b.value) b.second
+    where
+      go : (h : Graph r) (x : Reduced) (u : ℕ) → length (solution r h x) ≤ width r g → (b : Bool)
+          → Ends {E = Halt} {A = Inside r} ((if b then (ready (all_inside []) >>= λ y. ready (with_solution r (solution r h x) y)) else ready (first_outside (record { column = 1; by = numbers x.steps; rest = x.rest }))) u) y left → length (solution_of r y) ≤ width r g
+      go h x u long true e = subst (λ y. length (solution_of r y) ≤ width r g) (same_value (all_inside (solution r h x ∷ [])) y u left e) long
+      go h x u long false e = subst (λ y. length (solution_of r y) ≤ width r g) (same_value (first_outside (record { column = 1; by = numbers x.steps; rest = x.rest })) y u left e) (omega arith)
 
   -- the stage at which a class is killed is that of one of the graphs
   stages_at_most : (e : ℕ) (w : VectorOf r) (s : ℕ) (before : Option Outside) (gs : List (Graph r)) → s + length gs ≤ suc most → AreGraphsAtMost r most gs → (units left : ℕ) (y : Killed r) → Ends (stages r e w s before gs units) y left → IsKilledAtMost r most y
   stages_at_most e w s before [] h G units left y ends = subst (IsKilledAtMost r most) (same_value (never_killed before) y units left ends) tt
   stages_at_most e w s before (g ∷ gs) h G units left y ends =
-      let after = λ (y : Graph r × Reduced). if is_inside r y.0 y.1 then ready (killed_at s (solution_at r y) before) else stages r e w (suc s) (Some (outside_at r 1 y)) gs in
-      let a = bound (task Alone names.Stage s (lift_at r e g w)) after units left y ends in
+      let a = bound (task Alone names.Stage s (lift_at r e g w)) (killed_or r s before (λ o. stages r e w (suc s) (Some o) gs)) units left y ends in
       let wide = coordinates_length e g w units a.between a.value (task_ends Alone names.Stage s (lift_at r e g w) units a.between a.value a.first) in
       let columns = G.0.matrix.columns in
-      go a.value a.between (omega (arith, wide, columns)) (is_inside r (a.value).0 (a.value).1) a.second (λ before units left y. stages_at_most e w (suc s) before gs (omega (arith, h)) G.1 units left y)
+      go a.value a.between (omega (arith, wide, columns)) a.second (λ before units left y. stages_at_most e w (suc s) before gs (omega (arith, h)) G.1 units left y)
     where
-      go : (x : Graph r × Reduced) (u : ℕ) → length (solution_at r x) ≤ most → (b : Bool)
-          → Ends ((if b then ready (killed_at s (solution_at r x) before) else stages r e w (suc s) (Some (outside_at r 1 x)) gs) u) y left
+      go : (x : Inside r) (u : ℕ) → length (solution_of r x) ≤ most → Ends (killed_or r s before (λ o. stages r e w (suc s) (Some o) gs) x u) y left
           → ((before : Option Outside) (units left : ℕ) (y : Killed r) → Ends (stages r e w (suc s) before gs units) y left → IsKilledAtMost r most y) → IsKilledAtMost r most y
-      go x u long true ends rest = subst (IsKilledAtMost r most) {x = killed_at s (solution_at r x) before} (same_value (killed_at s (solution_at r x) before) y u left ends) (omega (arith, h), long)
-      go x u long false ends rest = rest (Some (outside_at r 1 x)) u left y ends
+      go (all_inside ws) u long ends rest = subst (IsKilledAtMost r most) {x = killed_at s (get_or ws 0 []) before} (same_value (killed_at s (get_or ws 0 []) before) y u left ends) (omega (arith, h), long)
+      go (first_outside o) u long ends rest = rest (Some o) u left y ends
 
   graphs_counted : (t : ℕ) (gs : List (Graph r)) → length (take t gs) ≤ t
   graphs_counted zero gs = omega arith
@@ -145,11 +150,16 @@ module _ (r : Ring) (most : ℕ) where
   allowed_left true refusal units left u e = let h = same_left tt u units left e in omega (arith, h)
   allowed_left false refusal units left u e = absurd (no_value (refused refusal) u units left e)
 
+  pub unless_left : (refusal : ℕ → Refusal) (o : Option ℕ) (units left : ℕ) (u : Unit {0}) → Ends (unless r refusal o units) u left → left ≤ units
+  unless_left refusal None units left u e = let h = same_left tt u units left e in omega (arith, h)
+  unless_left refusal (Some k) units left u e = absurd (no_value (refused (refusal k)) u units left e)
+
   cocycle_spends : (e : ℕ) (d : MatrixOf r) (z : VectorOf r) → Spends (cocycle_work r e d z)
   unfolding cocycle_work
   cocycle_spends e d z =
-      then_spends (twisted_matrix r.prime r.vars e d) (λ D. multiplied r.prime r.vars (matrix_transpose r.prime r.vars D) (matrix_column r.prime r.vars z) >>= λ B. ready (list_all (λ c. is_zero (terms_of r c)) B.columns)) (twist_spends r e d)
-      (λ D. then_spends (multiplied r.prime r.vars (matrix_transpose r.prime r.vars D) (matrix_column r.prime r.vars z)) (λ B. ready (list_all (λ c. is_zero (terms_of r c)) B.columns))
+      let test = λ (B : MatrixOf r). ready (first_nonzero r 1 (get_or B.columns 0 [])) in
+      then_spends (twisted_matrix r.prime r.vars e d) (λ D. multiplied r.prime r.vars (matrix_transpose r.prime r.vars D) (matrix_column r.prime r.vars z) >>= test) (twist_spends r e d)
+      (λ D. then_spends (multiplied r.prime r.vars (matrix_transpose r.prime r.vars D) (matrix_column r.prime r.vars z)) test
       (multiplied_spends r (matrix_transpose r.prime r.vars D) (matrix_column r.prime r.vars z)) (λ B units. omega arith))
 
   pub class_sizes : (i : ℕ) (fs : Ideal r) (e : ℕ) (z : VectorOf r) → i + 2 ≤ most → length fs ≤ most → (units left : ℕ) (x : Found r) → units < most → Ends (plan r (ask_class i fs e z) units) x left → HasSizes r most x
@@ -157,24 +167,24 @@ module _ (r : Ring) (most : ℕ) where
   class_sizes i fs e z degree generators units left x enough ends =
       let dat = λ (y : Resolution r). matrix_at r.prime r.vars (differentials_of r y) i in
       let after_stages = λ (b : BaseOf r) (w : VectorOf r). stages r e w 0 None (chain_graphs r b) >>= λ s. ready (found_class i fs b e z w s) in
-      let after_base = λ (b : BaseOf r). task Alone names.Coordinates 0 (lift_at r e b.ext.cocycles.graph z) >>= λ y. after_stages b (solution_at r y) in
-      let after_test = λ (y : Resolution r) (yes : Bool). allowed r yes not_a_cocycle >>= λ u'. base_of r Alone i y >>= after_base in
-      let after_length = λ (y : Resolution r). task Alone names.Test 0 (cocycle_work r e (dat y) z) >>= after_test y in
-      let a = bound (resolution_plan r Alone i fs) (λ y. allowed r (length z == (dat y).rows) wrong_length >>= λ u. after_length y) units left x ends in
+      let after_base = λ (b : BaseOf r). task Alone names.Coordinates 0 (lift_at r e b.ext.cocycles.graph z) >>= λ y. after_stages b (solution_of r y) in
+      let after_length = λ (y : Resolution r). task Alone names.Test 0 (cocycle_work r e (dat y) z) >>= unless r not_a_cocycle >>= λ u'. base_of r Alone i y >>= after_base in
+      let long = λ (y : Resolution r). allowed r (length z == (dat y).rows) (wrong_length (length z) (dat y).rows) in
+      let a = bound (resolution_plan r Alone i fs) (λ y. long y >>= λ u. after_length y) units left x ends in
       let y = a.value in
       let X = resolution_sizes r most Alone i fs degree generators units a.between y enough a.first in
-      let c = bound (allowed r (length z == (dat y).rows) wrong_length) (λ u. after_length y) a.between left x a.second in
-      let f = bound (task Alone names.Test 0 (cocycle_work r e (dat y) z)) (after_test y) c.between left x c.second in
-      let g = bound (allowed r f.value not_a_cocycle) (λ u'. base_of r Alone i y >>= after_base) f.between left x f.second in
+      let c = bound (long y) (λ u. after_length y) a.between left x a.second in
+      let g = bound (task Alone names.Test 0 (cocycle_work r e (dat y) z) >>= unless r not_a_cocycle) (λ u'. base_of r Alone i y >>= after_base) c.between left x c.second in
+      let f = bound (task Alone names.Test 0 (cocycle_work r e (dat y) z)) (unless r not_a_cocycle) c.between g.between g.value g.first in
       let k = bound (base_of r Alone i y) after_base g.between left x g.second in
       let b = k.value in
       let work = lift_at r e b.ext.cocycles.graph z in
-      let j = bound (task Alone names.Coordinates 0 work) (λ y. after_stages b (solution_at r y)) k.between left x k.second in
-      let w = solution_at r j.value in
+      let j = bound (task Alone names.Coordinates 0 work) (λ y. after_stages b (solution_of r y)) k.between left x k.second in
+      let w = solution_of r j.value in
       let l = bound (stages r e w 0 None (chain_graphs r b)) (λ s. ready (found_class i fs b e z w s)) j.between left x j.second in
-      let one_left = allowed_left (length z == (dat y).rows) wrong_length a.between c.between c.value c.first in
+      let one_left = allowed_left (length z == (dat y).rows) (wrong_length (length z) (dat y).rows) a.between c.between c.value c.first in
       let two_left = left_of (cocycle_work r e (dat y) z) c.between f.between f.value (cocycle_spends e (dat y) z) (task_ends Alone names.Test 0 (cocycle_work r e (dat y) z) c.between f.between f.value f.first) in
-      let three_left = allowed_left f.value not_a_cocycle f.between g.between g.value g.first in
+      let three_left = unless_left not_a_cocycle f.value f.between g.between g.value f.second in
       let zero_left = X.1 in
       let B = base_of_sizes r most Alone i y (omega (arith, degree)) X.0 g.between k.between b (omega (arith, zero_left, one_left, two_left, three_left)) k.first in
       let wide = coordinates_length e b.ext.cocycles.graph z k.between j.between j.value (task_ends Alone names.Coordinates 0 work k.between j.between j.value j.first) in

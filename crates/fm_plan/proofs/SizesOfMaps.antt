@@ -1,5 +1,5 @@
 -- The sizes of what a plan finds of a map are within its units and what is asked with; all queries.
-use Rattle.std.proofs.Common.{ℕ, zero, suc, ◌+◌, ◌<◌, ◌≤◌, if◌then◌else◌, Bool, true, false, Option, Some, None, List, [], ◌∷◌, ◌++◌, map, length, take, sym, subst, arith}
+use Rattle.std.proofs.Common.{ℕ, zero, suc, ◌+◌, ◌<◌, ◌≤◌, if◌then◌else◌, Bool, true, false, Some, None, List, [], ◌∷◌, ◌++◌, map, length, take, sym, subst, arith}
 use Rattle.std.proofs.lemmas.List.{length-append}
 use Rattle.fm_algebra.specs.PolynomialMatrices.{matrix_unit, matrix_transpose, matrix_beside}
 use Rattle.fm_limit.specs.ResolvedIdeal.{matrix_at}
@@ -10,7 +10,7 @@ use Rattle.fm_complete.proofs.Spending.{divided_run_spends}
 use Rattle.fm_complete.proofs.CompletionSpending.{completed_spends}
 use Rattle.fm_run.specs.Runs.{Spends, ready, ◌>>=◌}
 use Rattle.fm_run.specs.Turns.{Turn, last}
-use Rattle.fm_run.proofs.Ends.{Ends, same_value, no_value, bound}
+use Rattle.fm_run.proofs.Ends.{Ends, same_value, bound}
 use Rattle.fm_run.proofs.Counting.{same_left, same_end, left_of, LeadsLeft, turns_lead_left}
 use Rattle.fm_run.proofs.Spending.{then_spends}
 use Rattle.fm_term.specs.declared.vterm.VTerm.{VTerm}
@@ -22,13 +22,13 @@ use Rattle.fm_graphs.specs.Sizes.{IsMatrixAtMost, IsInsideAtMost, IsPreimageAtMo
 use Rattle.fm_graphs.proofs.Spending.{graph_spends, lifted_spends, preimage_spends, twist_spends}
 use Rattle.fm_graphs.proofs.Sizes.{graph_size, whole_size, beside_rows, beside_columns, lifted_size, inside_size, inside_spends, whole_spends, inside_at_most, IsPaid, inside_paid, whole_paid, preimage_size, multiplied_columns, multiplied_spends}
 use Rattle.fm_run.specs.declared.task.Side.TheVariants.{Alone, Source, Target}
-use Rattle.fm_plan.specs.Tasks.{not_contained, refused, task, out_of_units}
+use Rattle.fm_plan.specs.Tasks.{not_contained, task, out_of_units}
 use Rattle.fm_plan.specs.Results.{Ideal, graphs_of, differentials_of}
-use Rattle.fm_plan.specs.Queries.{BaseOf, base_plan, contained_from, contained_work, contained_or, over_identity, fibre_work, phi_work, Joins, join_settled, join_next, join_turn, joined, join_work, onto_plan, compared, mapped, Onto, onto_at, Found, found_map, Query, ask_zero, ask_class, ask_root, ask_invert, ask_support, ask_map, ask_member, ask_resolution, ask_ext, plan}
+use Rattle.fm_plan.specs.Queries.{BaseOf, base_plan, contained_from, contained_work, unless, over_identity, fibre_work, phi_work, Joins, join_settled, join_next, join_turn, joined, join_work, onto_plan, compared, mapped, Onto, onto_at, Found, found_map, Query, ask_zero, ask_class, ask_root, ask_invert, ask_support, ask_map, ask_member, ask_resolution, ask_ext, plan}
 use Rattle.fm_plan.specs.Sizes.{AreMatricesAtMost, ArePreimagesAtMost, IsBaseAtMost, IsOntoAtMost, HasSizes, size_of}
 use Rattle.fm_plan.proofs.Tasks.{task_ends}
 use Rattle.fm_plan.proofs.SizesOfBases.{preimages_more, AreGraphsAtMost, graphs_taken, graphs_at_most, differentials_at_most, unit_at_most, base_sizes}
-use Rattle.fm_plan.proofs.SizesOfAnswers.{zero_sizes, root_sizes, resolution_sizes_found, ext_sizes_found, member_sizes, support_sizes, class_sizes, invert_sizes}
+use Rattle.fm_plan.proofs.SizesOfAnswers.{zero_sizes, root_sizes, resolution_sizes_found, ext_sizes_found, member_sizes, support_sizes, class_sizes, invert_sizes, unless_left}
 use Rattle.fm_run.specs.declared.task.Name.TheVariants as names
 
 module _ (r : Ring) (most : ℕ) where
@@ -231,19 +231,15 @@ module _ (r : Ring) (most : ℕ) where
   unfolding contained_work
   contained_spends fs gs = then_spends (completed r (map (λ f. terms_of r (f ∷ [])) fs)) (λ c. contained_from r c.members 1 gs) (completed_spends r (map (λ f. terms_of r (f ∷ [])) fs)) (λ c. contained_from_spends c.members 1 gs)
 
-  contained_left : (o : Option ℕ) (units left : ℕ) (u : Unit {0}) → Ends (contained_or r o units) u left → left ≤ units
-  contained_left None units left u e = let h = same_left tt u units left e in omega (arith, h)
-  contained_left (Some k) units left u e = absurd (no_value (refused (not_contained k)) u units left e)
-
   map_sizes : (i : ℕ) (fs gs : Ideal r) → i + 2 ≤ most → length fs ≤ most → length gs ≤ most → (units left : ℕ) (x : Found r) → units < most → Ends (plan r (ask_map i fs gs) units) x left → HasSizes r most x
   unfolding plan
   map_sizes i fs gs degree sources targets_count units left x enough ends =
       let work = contained_work r fs gs in
       let targets = λ (b : BaseOf r). base_plan r Target i gs >>= mapped r i fs gs b in
-      let a = bound (task Alone names.Contained 0 work >>= contained_or r) (λ u. base_plan r Source i fs >>= targets) units left x ends in
-      let w = bound (task Alone names.Contained 0 work) (contained_or r) units a.between a.value a.first in
+      let a = bound (task Alone names.Contained 0 work >>= unless r not_contained) (λ u. base_plan r Source i fs >>= targets) units left x ends in
+      let w = bound (task Alone names.Contained 0 work) (unless r not_contained) units a.between a.value a.first in
       let k = left_of work units w.between w.value (contained_spends fs gs) (task_ends Alone names.Contained 0 work units w.between w.value w.first) in
-      let l = contained_left w.value w.between a.between a.value w.second in
+      let l = unless_left r most not_contained w.value w.between a.between a.value w.second in
       let sb = bound (base_plan r Source i fs) targets a.between left x a.second in
       let S = base_sizes r most Source i fs degree sources a.between sb.between sb.value (omega (arith, k, l, enough)) sb.first in
       let tb = bound (base_plan r Target i gs) (mapped r i fs gs sb.value) sb.between left x sb.second in

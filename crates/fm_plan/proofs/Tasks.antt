@@ -1,5 +1,5 @@
 -- Tasks that end, and columns in an image.
-use Rattle.std.proofs.Common.{ℕ, ◌≡◌, [], get_or, Result, Ok, Err, refl, ap, ◌∙◌, subst}
+use Rattle.std.proofs.Common.{ℕ, ◌≡◌, Option, Some, None, [], get_or, Result, Ok, Err, refl, ap, ◌∙◌, subst}
 use Rattle.fm_run.specs.Runs.{Halt}
 use Rattle.fm_run.specs.Runs.{Ending, Ended}
 use Rattle.fm_algebra.specs.PolynomialMatrices.{InImage}
@@ -15,7 +15,8 @@ use Rattle.fm_run.specs.declared.task.Side.{Side}
 use Rattle.fm_run.specs.declared.task.Name.{Name}
 use Rattle.fm_run.specs.declared.task.Task.{Task}
 use Rattle.fm_run.specs.Tasks.{named}
-use Rattle.fm_plan.specs.Tasks.{Unanswered, stopped, task}
+use Rattle.fm_plan.specs.Tasks.{Refusal, Unanswered, stopped, refused, task}
+use Rattle.fm_plan.specs.Queries.{unless}
 
 -- a task that ends did its work
 pub task_ends : {A : Type 0} (side : Side) (name : Name) (number : ℕ) (work : Work A) (units left : ℕ) (x : A) → Ends (task side name number work units) x left → Ends (work units) x left
@@ -31,6 +32,10 @@ task_ends {A} side name number work units left x e = go (work units).end (work u
         let rest : l ≡ left = ap (λ (d : Ending Unanswered A). d.left) h in
         w ∙ (λ i. record { end = Ok (same i); left = rest i })
     go (Err s) l w h = absurd (no_value (stopped t s) x l left h)
+
+pub unless_ends : (r : Ring) (refusal : ℕ → Refusal) (o : Option ℕ) (units left : ℕ) (u : Unit {0}) → Ends (unless r refusal o units) u left → o ≡ None
+unless_ends r refusal None units left u e = refl
+unless_ends r refusal (Some k) units left u e = absurd (no_value (refused (refusal k)) u units left e)
 
 module _ (r : Ring) (A B : MatrixOf r) where
   pub columns_in : ((v : VectorOf r) → In B.columns v → InImage r.prime r.vars A v) → ColumnsInImage r.prime r.vars A B

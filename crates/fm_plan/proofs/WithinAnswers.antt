@@ -1,6 +1,7 @@
 -- Plans of one ideal that end with an answer stay within the bound on exponents.
-use Rattle.std.proofs.Common.{ℕ, zero, suc, ◌==◌, ◌≡◌, ◌/◌, ◌%◌, ◌*◌, eqb, if◌then◌else◌, Bool, true, false, Option, Some, None, List, [], ◌∷◌, length, refl, sym, subst}
-use Rattle.std.proofs.lemmas.Bool.{and_from}
+use Rattle.std.proofs.Common.{ℕ, zero, suc, ◌==◌, ◌≡◌, ◌/◌, ◌%◌, ◌*◌, eqb, true, Option, Some, None, List, [], ◌∷◌, length, get_or, refl, sym, subst}
+use Rattle.std.proofs.lemmas.Bool.{and_from, and_parts}
+use Rattle.std.specs.List.{list_all}
 use Rattle.fm_algebra.specs.Matrix.{component}
 use Rattle.fm_algebra.specs.Power.{power}
 use Rattle.fm_algebra.specs.Polynomials.{Polynomial, polynomials, polynomial_product, polynomial_power}
@@ -9,23 +10,22 @@ use Rattle.fm_algebra.proofs.Concrete.{polynomials_laws}
 use Rattle.fm_limit.specs.ResolvedIdeal.{matrix_at, row}
 use Rattle.fm_limit.specs.Facts.{unit_column, diagonal_blocks, first_entries}
 use Rattle.fm_poly.specs.declared.ring.Ring.{Ring}
-use Rattle.fm_complete.specs.Reductions.{Reduced}
 use Rattle.fm_mat.specs.Bounds.{product_fits}
 use Rattle.fm_run.specs.Runs.{ready, ◌>>=◌, bounded}
 use Rattle.fm_run.specs.Turns.{Turn, last}
 use Rattle.fm_run.proofs.Ends.{Ends, same_value, bound, bounded_value, Leads, turns_lead}
 use Rattle.fm_graphs.specs.Listing.{VectorOf}
-use Rattle.fm_graphs.specs.Graphs.{MatrixOf, Graph, Outside, Inside, all_inside, first_outside, graph_run, lift_run, is_inside, lifted, inside_run, whole_run, twisted_graph}
+use Rattle.fm_graphs.specs.Graphs.{MatrixOf, Graph, Outside, Inside, all_inside, first_outside, graph_run, lifted, inside_run, whole_run, twisted_graph}
 use Rattle.fm_graphs.specs.Trims.{Preimage, preimage_run}
 use Rattle.fm_graphs.specs.Within.{is_within, are_within, IsMatrixWithin, IsGraphWithin, IsInsideWithin, IsPreimageWithin}
 use Rattle.fm_graphs.proofs.WithinPolynomials.{product_within}
 use Rattle.fm_graphs.proofs.WithinMatrices.{one_of, all_map, zero_within, unit_within, chosen, entry_within, table_within, scalar_within, column_within}
-use Rattle.fm_graphs.proofs.WithinGraphs.{test_passed, graph_ends, lift_ends, solution_within, lifted_ends, inside_ends, whole_ends, preimage_ends}
+use Rattle.fm_graphs.proofs.WithinGraphs.{test_passed, graph_ends, lifted_ends, inside_ends, whole_ends, preimage_ends}
 use Rattle.fm_run.specs.declared.task.Side.TheVariants.{Alone}
 use Rattle.fm_plan.specs.Tasks.{wrong_length, not_a_cocycle, task, out_of_units}
 use Rattle.fm_plan.specs.Results.{Resolution, Ideal, Killed, killed_at, never_killed, differentials_of}
 use Rattle.fm_plan.specs.Base.{resolution_plan, ext_plan}
-use Rattle.fm_plan.specs.Queries.{BaseOf, base_of, base_plan, stable_graph, allowed, cocycle_work, lift_at, solution_at, outside_at, stages, chain_graphs, Colons, Coloned, whole_at, stable_at, colon_settled, colon_next, colon_turn, coloned, power_run, before_power, inverted_of, Inverted, by_power, never_inverted, Found, found_zero, found_class, found_root, found_invert, found_support, found_resolution, found_ext, found_member, ask_zero, ask_class, ask_root, ask_invert, ask_support, ask_resolution, ask_ext, ask_member, plan}
+use Rattle.fm_plan.specs.Queries.{BaseOf, base_of, base_plan, stable_graph, allowed, cocycle_work, lift_at, solution_of, killed_or, unless, stages, chain_graphs, Colons, Coloned, whole_at, stable_at, colon_settled, colon_next, colon_turn, coloned, power_run, before_power, inverted_of, Inverted, by_power, never_inverted, Found, found_zero, found_class, found_root, found_invert, found_support, found_resolution, found_ext, found_member, ask_zero, ask_class, ask_root, ask_invert, ask_support, ask_resolution, ask_ext, ask_member, plan}
 use Rattle.fm_plan.specs.Within.{ArePreimagesWithin, IsKilledWithin, IsInvertedWithin, IsFoundWithin}
 use Rattle.fm_plan.proofs.Tasks.{task_ends}
 use Rattle.fm_plan.proofs.WithinBases.{row_within, preimages_more, resolution_within, ext_within, base_of_within, base_within}
@@ -112,46 +112,46 @@ module _ (r : Ring) where
       subst (IsFoundWithin r) {x = found_support i fs a.value d.value} (same_value (found_support i fs a.value d.value) x d.between left d.second) (B, Q, first_within d.value.found Q.found)
 
   -- ---- class
-  lift_at_within : (e : ℕ) (g : Graph r) (z : VectorOf r) → VectorWithin z → (units left : ℕ) (y : Graph r × Reduced) → Ends (lift_at r e g z units) y left → VectorWithin (solution_at r y)
+  solution_of_within : (y : Inside r) → IsInsideWithin r y → VectorWithin (solution_of r y)
+  solution_of_within (all_inside []) h = refl
+  solution_of_within (all_inside (w ∷ ws)) h = (and_parts (are_within r.prime r.vars w) (list_all (are_within r.prime r.vars) ws) h).0
+  solution_of_within (first_outside o) h = refl
+
+  lift_at_within : (e : ℕ) (g : Graph r) (z : VectorOf r) → VectorWithin z → (units left : ℕ) (y : Inside r) → Ends (lift_at r e g z units) y left → VectorWithin (solution_of r y)
   unfolding lift_at
   lift_at_within e g z h units left y ends =
-      let a = bound (twisted_graph r e g) (λ h. lift_run r h z >>= λ x. ready (h, x)) units left y ends in
-      let b = bound (lift_run r a.value z) (λ x. ready (a.value, x)) a.between left y a.second in
-      subst (λ (y : Graph r × Reduced). VectorWithin (solution_at r y)) {x = (a.value, b.value)} (same_value (a.value, b.value) y b.between left b.second)
-      (solution_within r a.value b.value (lift_ends r a.value z h a.between b.between b.value b.first))
+      let a = bound (twisted_graph r e g) (inside_run r (matrix_column r.prime r.vars z)) units left y ends in
+      solution_of_within y (inside_ends r (matrix_column r.prime r.vars z) a.value (column_within r.prime r.vars z h) a.between left y a.second)
 
   stages_within : (e : ℕ) (w : VectorOf r) → VectorWithin w → (s : ℕ) (before : Option Outside) (gs : List (Graph r)) (units left : ℕ) (y : Killed r) → Ends (stages r e w s before gs units) y left → IsKilledWithin r y
   stages_within e w h s before [] units left y ends = subst (IsKilledWithin r) (same_value (never_killed before) y units left ends) tt
   stages_within e w h s before (g ∷ gs) units left y ends =
-      let after = λ (y : Graph r × Reduced). if is_inside r y.0 y.1 then ready (killed_at s (solution_at r y) before) else stages r e w (suc s) (Some (outside_at r 1 y)) gs in
-      let a = bound (task Alone names.Stage s (lift_at r e g w)) after units left y ends in
-      go a.value a.between (lift_at_within e g w h units a.between a.value (task_ends Alone names.Stage s (lift_at r e g w) units a.between a.value a.first)) (is_inside r (a.value).0 (a.value).1) a.second
+      let a = bound (task Alone names.Stage s (lift_at r e g w)) (killed_or r s before (λ o. stages r e w (suc s) (Some o) gs)) units left y ends in
+      go a.value a.between (lift_at_within e g w h units a.between a.value (task_ends Alone names.Stage s (lift_at r e g w) units a.between a.value a.first)) a.second
       (λ before units left y. stages_within e w h (suc s) before gs units left y)
     where
-      go : (x : Graph r × Reduced) (u : ℕ) → VectorWithin (solution_at r x) → (b : Bool)
-          → Ends ((if b then ready (killed_at s (solution_at r x) before) else stages r e w (suc s) (Some (outside_at r 1 x)) gs) u) y left
+      go : (x : Inside r) (u : ℕ) → VectorWithin (solution_of r x) → Ends (killed_or r s before (λ o. stages r e w (suc s) (Some o) gs) x u) y left
           → ((before : Option Outside) (units left : ℕ) (y : Killed r) → Ends (stages r e w (suc s) before gs units) y left → IsKilledWithin r y) → IsKilledWithin r y
-      go x u v true ends rest = subst (IsKilledWithin r) (same_value (killed_at s (solution_at r x) before) y u left ends) v
-      go x u v false ends rest = rest (Some (outside_at r 1 x)) u left y ends
+      go (all_inside ws) u v ends rest = subst (IsKilledWithin r) (same_value (killed_at s (get_or ws 0 []) before) y u left ends) v
+      go (first_outside o) u v ends rest = rest (Some o) u left y ends
 
   pub class_within_bound : (i : ℕ) (fs : Ideal r) (e : ℕ) (z : VectorOf r) → IdealWithin fs → VectorWithin z → (units left : ℕ) (x : Found r) → Ends (plan r (ask_class i fs e z) units) x left → IsFoundWithin r x
   unfolding plan
   class_within_bound i fs e z h v units left x ends =
       let dat = λ (y : Resolution r). matrix_at r.prime r.vars (differentials_of r y) i in
       let after_stages = λ (b : BaseOf r) (w : VectorOf r). stages r e w 0 None (chain_graphs r b) >>= λ s. ready (found_class i fs b e z w s) in
-      let after_base = λ (b : BaseOf r). task Alone names.Coordinates 0 (lift_at r e b.ext.cocycles.graph z) >>= λ y. after_stages b (solution_at r y) in
-      let after_test = λ (y : Resolution r) (yes : Bool). allowed r yes not_a_cocycle >>= λ u'. base_of r Alone i y >>= after_base in
-      let after_length = λ (y : Resolution r). task Alone names.Test 0 (cocycle_work r e (dat y) z) >>= after_test y in
-      let a = bound (resolution_plan r Alone i fs) (λ y. allowed r (length z == (dat y).rows) wrong_length >>= λ u. after_length y) units left x ends in
+      let after_base = λ (b : BaseOf r). task Alone names.Coordinates 0 (lift_at r e b.ext.cocycles.graph z) >>= λ y. after_stages b (solution_of r y) in
+      let after_length = λ (y : Resolution r). task Alone names.Test 0 (cocycle_work r e (dat y) z) >>= unless r not_a_cocycle >>= λ u'. base_of r Alone i y >>= after_base in
+      let long = λ (y : Resolution r). allowed r (length z == (dat y).rows) (wrong_length (length z) (dat y).rows) in
+      let a = bound (resolution_plan r Alone i fs) (λ y. long y >>= λ u. after_length y) units left x ends in
       let y = a.value in
-      let c = bound (allowed r (length z == (dat y).rows) wrong_length) (λ u. after_length y) a.between left x a.second in
-      let f = bound (task Alone names.Test 0 (cocycle_work r e (dat y) z)) (after_test y) c.between left x c.second in
-      let g = bound (allowed r f.value not_a_cocycle) (λ u'. base_of r Alone i y >>= after_base) f.between left x f.second in
+      let c = bound (long y) (λ u. after_length y) a.between left x a.second in
+      let g = bound (task Alone names.Test 0 (cocycle_work r e (dat y) z) >>= unless r not_a_cocycle) (λ u'. base_of r Alone i y >>= after_base) c.between left x c.second in
       let k = bound (base_of r Alone i y) after_base g.between left x g.second in
       let b = k.value in
       let work = lift_at r e b.ext.cocycles.graph z in
-      let j = bound (task Alone names.Coordinates 0 work) (λ y. after_stages b (solution_at r y)) k.between left x k.second in
-      let w = solution_at r j.value in
+      let j = bound (task Alone names.Coordinates 0 work) (λ y. after_stages b (solution_of r y)) k.between left x k.second in
+      let w = solution_of r j.value in
       let w_within = lift_at_within e b.ext.cocycles.graph z v k.between j.between j.value (task_ends Alone names.Coordinates 0 work k.between j.between j.value j.first) in
       let l = bound (stages r e w 0 None (chain_graphs r b)) (λ s. ready (found_class i fs b e z w s)) j.between left x j.second in
       subst (IsFoundWithin r) {x = found_class i fs b e z w l.value} (same_value (found_class i fs b e z w l.value) x l.between left l.second) (

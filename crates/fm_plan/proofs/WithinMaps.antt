@@ -13,9 +13,9 @@ use Rattle.fm_graphs.specs.Within.{are_within, IsMatrixWithin, IsGraphWithin, Is
 use Rattle.fm_graphs.proofs.WithinMatrices.{units_within, beside_within}
 use Rattle.fm_graphs.proofs.WithinGraphs.{multiplied_ends, twist_ends, graph_ends, lifted_ends, inside_ends, whole_ends, preimage_ends}
 use Rattle.fm_run.specs.declared.task.Side.TheVariants.{Alone, Source, Target}
-use Rattle.fm_plan.specs.Tasks.{task, out_of_units}
+use Rattle.fm_plan.specs.Tasks.{not_contained, task, out_of_units}
 use Rattle.fm_plan.specs.Results.{Ideal, graphs_of, differentials_of}
-use Rattle.fm_plan.specs.Queries.{BaseOf, base_plan, contained_work, contained_or, over_identity, fibre_work, phi_work, Joins, join_settled, join_next, join_turn, joined, join_work, onto_plan, compared, mapped, Onto, onto_at, Found, found_map, Query, ask_zero, ask_class, ask_root, ask_invert, ask_support, ask_map, ask_member, ask_resolution, ask_ext, plan}
+use Rattle.fm_plan.specs.Queries.{BaseOf, base_plan, contained_work, unless, over_identity, fibre_work, phi_work, Joins, join_settled, join_next, join_turn, joined, join_work, onto_plan, compared, mapped, Onto, onto_at, Found, found_map, Query, ask_zero, ask_class, ask_root, ask_invert, ask_support, ask_map, ask_member, ask_resolution, ask_ext, plan}
 use Rattle.fm_plan.specs.Within.{AreMatricesWithin, ArePreimagesWithin, IsBaseWithin, IsOntoWithin, IsFoundWithin, IsQueryWithin}
 use Rattle.fm_plan.proofs.Tasks.{task_ends}
 use Rattle.fm_plan.proofs.WithinBases.{preimages_more, base_within}
@@ -150,7 +150,7 @@ module _ (r : Ring) where
   map_within_bound i fs gs h k units left x ends =
       let work = contained_work r fs gs in
       let targets = λ (b : BaseOf r). base_plan r Target i gs >>= mapped r i fs gs b in
-      let a = bound (task Alone names.Contained 0 work >>= contained_or r) (λ u. base_plan r Source i fs >>= targets) units left x ends in
+      let a = bound (task Alone names.Contained 0 work >>= unless r not_contained) (λ u. base_plan r Source i fs >>= targets) units left x ends in
       let sb = bound (base_plan r Source i fs) targets a.between left x a.second in
       let tb = bound (base_plan r Target i gs) (mapped r i fs gs sb.value) sb.between left x sb.second in
       mapped_within i fs gs sb.value tb.value (base_within r Source i fs h a.between sb.between sb.value sb.first) (base_within r Target i gs k sb.between tb.between tb.value tb.first) tb.between left x tb.second

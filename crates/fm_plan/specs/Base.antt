@@ -80,5 +80,9 @@ module _ (r : Ring) (side : Side) where
   abbrev pub chain_turn : MatrixOf r → Links r → Plan (Turn (Links r) (Chain r))
   chain_turn u c = task side ChainTask (suc (length c.growth)) (chain_work r u c)
 
+  -- the chain of u from the graph of K_0
+  abbrev pub chain_of : MatrixOf r → Graph r → Plan (Chain r)
+  chain_of u g = repeated (out_of_units side ChainTask) (chain_turn u) (record { links = []; growth = []; graph = g })
+
   unfoldable pub chain_plan : Ext r → Plan (Chain r)
-  chain_plan x = repeated (out_of_units side ChainTask) (chain_turn x.u) (record { links = []; growth = []; graph = x.relations.graph })
+  chain_plan x = chain_of x.u x.relations.graph

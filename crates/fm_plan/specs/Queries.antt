@@ -1,7 +1,6 @@
 -- The plans of the queries.
-use Rattle.std.specs.Prelude.{ℕ, zero, suc, ◌+◌, ◌==◌, if◌then◌else◌, Bool, true, false, List, [], ◌∷◌, ◌++◌, map, length, take, Option, Some, None}
-use Rattle.std.specs.List.{list_all}
-use Rattle.fm_complete.specs.Reductions.{Reduced, divided}
+use Rattle.std.specs.Prelude.{ℕ, zero, suc, ◌+◌, ◌==◌, if◌then◌else◌, Bool, true, false, List, [], ◌∷◌, ◌++◌, map, length, take, get_or, Option, Some, None}
+use Rattle.fm_complete.specs.Reductions.{divided}
 use Rattle.fm_algebra.specs.Polynomials.{Polynomial, polynomial_power}
 use Rattle.fm_algebra.specs.PolynomialMatrices.{matrix_transpose, matrix_unit, matrix_scalar, matrix_column, matrix_beside}
 use Rattle.fm_limit.specs.ResolvedIdeal.{matrix_at, rank, row}
@@ -12,9 +11,9 @@ use Rattle.fm_poly.specs.declared.ring.Ring.{Ring}
 use Rattle.fm_term.specs.declared.vterm.VTerm.{VTerm}
 use Rattle.fm_run.specs.Runs.{Work, ready, ◌>>=◌, halted, bounded}
 use Rattle.fm_run.specs.Turns.{Turn, last, again, repeated}
-use Rattle.fm_complete.specs.Completions.{completed, numbers}
+use Rattle.fm_complete.specs.Completions.{completed}
 use Rattle.fm_graphs.specs.Listing.{VectorOf, terms_of}
-use Rattle.fm_graphs.specs.Graphs.{MatrixOf, Graph, Outside, Inside, all_inside, first_outside, width, graph_run, lift_run, is_inside, solution, lifted, inside_run, whole_run, twisted_graph}
+use Rattle.fm_graphs.specs.Graphs.{MatrixOf, Graph, Outside, Inside, all_inside, first_outside, width, graph_run, lifted, inside_run, whole_run, twisted_graph}
 use Rattle.fm_graphs.specs.Trims.{Preimage, is_zero, preimage_run}
 use Rattle.fm_graphs.specs.Bounds.{multiplied, twisted_matrix}
 use Rattle.fm_mat.specs.Bounds.{product_fits}
@@ -76,28 +75,40 @@ module _ (r : Ring) where
   abbrev pub allowed : Bool → Refusal → Plan (Unit {0})
   allowed test refusal = if test then ready tt else halted (refused refusal)
 
-  -- whether z is a cocycle of stage e
-  unfoldable pub cocycle_work : ℕ → MatrixOf r → VectorOf r → Work Bool
+  -- goes on where no number is found that is refused
+  abbrev pub unless : (ℕ → Refusal) → Option ℕ → Plan (Unit {0})
+  unless refusal None = ready tt
+  unless refusal (Some k) = halted (refused (refusal k))
+
+  -- the first entry that isn't zero, numbered from k
+  abbrev pub first_nonzero : ℕ → VectorOf r → Option ℕ
+  first_nonzero k [] = None
+  first_nonzero k (f ∷ fs) = if is_zero (terms_of r (f ∷ [])) then first_nonzero (suc k) fs else Some k
+
+  -- the first entry of `flip(d^[q]) * z` that isn't zero, numbered from 1; none where z is a cocycle of stage e
+  unfoldable pub cocycle_work : ℕ → MatrixOf r → VectorOf r → Work (Option ℕ)
   cocycle_work e d z =
       twisted_matrix r.prime r.vars e d >>= λ D.
       multiplied r.prime r.vars (matrix_transpose r.prime r.vars D) (matrix_column r.prime r.vars z) >>= λ B.
-      ready (list_all (λ c. is_zero (terms_of r c)) B.columns)
+      ready (first_nonzero 1 (get_or B.columns 0 []))
 
-  -- coordinates: z through the graph, twisted
-  unfoldable pub lift_at : ℕ → Graph r → VectorOf r → Work (Graph r × Reduced)
-  lift_at e g z = twisted_graph r e g >>= λ h. lift_run r h z >>= λ x. ready (h, x)
+  -- z through the graph, twisted
+  unfoldable pub lift_at : ℕ → Graph r → VectorOf r → Work (Inside r)
+  lift_at e g z = twisted_graph r e g >>= inside_run r (matrix_column r.prime r.vars z)
 
-  abbrev pub solution_at : Graph r × Reduced → VectorOf r
-  solution_at y = solution r y.0 y.1
+  -- the solution of one column
+  abbrev pub solution_of : Inside r → VectorOf r
+  solution_of (all_inside ws) = get_or ws 0 []
+  solution_of (first_outside o) = []
 
-  abbrev pub outside_at : ℕ → Graph r × Reduced → Outside
-  outside_at k y = record { column = k; by = numbers y.1.steps; rest = y.1.rest }
+  abbrev pub killed_or : ℕ → Option Outside → (Outside → Plan (Killed r)) → Inside r → Plan (Killed r)
+  killed_or s before later (all_inside ws) = ready (killed_at s (get_or ws 0 []) before)
+  killed_or s before later (first_outside o) = later o
 
   -- `stage s` for the graphs of K_s, K_(s+1), ..
   abbrev pub stages : ℕ → VectorOf r → ℕ → Option Outside → List (Graph r) → Plan (Killed r)
   stages e w s before [] = ready (never_killed before)
-  stages e w s before (g ∷ gs) = task Alone names.Stage s (lift_at e g w) >>= λ y.
-      if is_inside r y.0 y.1 then ready (killed_at s (solution_at y) before) else stages e w (suc s) (Some (outside_at 1 y)) gs
+  stages e w s before (g ∷ gs) = task Alone names.Stage s (lift_at e g w) >>= killed_or s before (λ o. stages e w (suc s) (Some o) gs)
 
   abbrev pub chain_graphs : BaseOf r → List (Graph r)
   chain_graphs b = take (suc (stable_index r b.chain)) (b.ext.relations.graph ∷ map (λ (x : Preimage r). x.graph) b.chain.links)
@@ -160,10 +171,6 @@ module _ (r : Ring) where
 
   unfoldable pub contained_work : Ideal r → Ideal r → Work (Option ℕ)
   contained_work source target = completed r (map (λ f. terms_of r (f ∷ [])) source) >>= λ c. contained_from c.members 1 target
-
-  abbrev pub contained_or : Option ℕ → Plan (Unit {0})
-  contained_or None = ready tt
-  contained_or (Some k) = halted (refused (not_contained k))
 
   -- `lambda j`, for the differentials of the target and the graphs of those of the source from j on
   abbrev pub over_identity : ℕ → MatrixOf r → List (MatrixOf r) → List (Graph r) → Plan (List (MatrixOf r))
@@ -235,12 +242,11 @@ module _ (r : Ring) where
   plan (ask_class i fs e z) =
       resolution_plan r Alone i fs >>= λ x.
       let d = matrix_at r.prime r.vars (differentials_of r x) i in
-      allowed (length z == d.rows) wrong_length >>= λ u.
-      task Alone names.Test 0 (cocycle_work e d z) >>= λ yes.
-      allowed yes not_a_cocycle >>= λ u'.
+      allowed (length z == d.rows) (wrong_length (length z) d.rows) >>= λ u.
+      task Alone names.Test 0 (cocycle_work e d z) >>= unless not_a_cocycle >>= λ u'.
       base_of Alone i x >>= λ b.
       task Alone names.Coordinates 0 (lift_at e b.ext.cocycles.graph z) >>= λ y.
-      stages e (solution_at y) 0 None (chain_graphs b) >>= λ s. ready (found_class i fs b e z (solution_at y) s)
+      stages e (solution_of y) 0 None (chain_graphs b) >>= λ s. ready (found_class i fs b e z (solution_of y) s)
   plan (ask_invert i fs f) =
       base_plan Alone i fs >>= λ b. task Alone names.Colon 0 (whole_run r (stable_graph b)) >>= λ y.
       coloned f (stable_graph b) y >>= λ c. inverted_of f (stable_graph b) c >>= λ s. ready (found_invert i fs b f s)
@@ -249,7 +255,7 @@ module _ (r : Ring) where
       let K = (stable_graph b).matrix in
       task Alone names.Annihilator 0 (preimage_run r (unit_column r.prime r.vars K.rows) (diagonal_blocks r.prime r.vars K)) >>= λ a. ready (found_support i fs b a)
   plan (ask_map i fs gs) =
-      task Alone names.Contained 0 (contained_work fs gs) >>= contained_or >>= λ u.
+      task Alone names.Contained 0 (contained_work fs gs) >>= unless not_contained >>= λ u.
       base_plan Source i fs >>= λ b.
       base_plan Target i gs >>= λ c.
       mapped i fs gs b c

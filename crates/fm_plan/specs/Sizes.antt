@@ -1,10 +1,11 @@
 -- Sizes of what a plan finds: numbers of rows and columns, ranks, numbers of members of chains, and stages.
-use Rattle.std.specs.Prelude.{ℕ, ◌+◌, ◌≤◌, List, [], ◌∷◌, length}
+use Rattle.std.specs.Prelude.{ℕ, ◌+◌, ◌≤◌, ◌≡◌, List, [], ◌∷◌, length}
 use Rattle.fm_limit.specs.ResolvedIdeal.{rank}
 use Rattle.fm_poly.specs.declared.ring.Ring.{Ring}
 use Rattle.fm_graphs.specs.Graphs.{MatrixOf}
 use Rattle.fm_graphs.specs.Trims.{Preimage}
 use Rattle.fm_graphs.specs.Sizes.{IsMatrixAtMost, IsGraphAtMost, IsInsideAtMost, IsPreimageAtMost}
+use Rattle.fm_plan.specs.Tasks.{Refusal, wrong_length, not_a_cocycle, not_contained}
 use Rattle.fm_plan.specs.Results.{Resolution, Ext, Chain, Killed, killed_at, never_killed, differentials_of, stable_index}
 use Rattle.fm_plan.specs.Queries.{BaseOf, Inverted, by_power, never_inverted, Onto, onto_at, never_onto, Found, found_zero, found_class, found_root, found_invert, found_support, found_map, found_member, found_resolution, found_ext, Query, ask_zero, ask_class, ask_root, ask_invert, ask_support, ask_map, ask_member, ask_resolution, ask_ext}
 
@@ -87,3 +88,11 @@ module _ (r : Ring) where
   size_of (ask_member fs f) = 2 + length fs
   size_of (ask_resolution i fs) = i + 2 + length fs
   size_of (ask_ext i fs) = i + 2 + length fs
+
+  -- the refusals of a query, with their numbers: how long the class is that is asked with, and which rank is needed; the first component of
+  -- its image that isn't zero; a generator of the target. No other query is refused.
+  abbrev pub IsRefusalOf : (most : ℕ) → Query r → Refusal → Type 0
+  IsRefusalOf most (ask_class i fs e z) (wrong_length found needed) = (found ≡ length z) × (needed ≤ most)
+  IsRefusalOf most (ask_class i fs e z) (not_a_cocycle component) = component ≤ most
+  IsRefusalOf most (ask_map i fs gs) (not_contained k) = k ≤ length gs
+  IsRefusalOf most q refusal = ⊥

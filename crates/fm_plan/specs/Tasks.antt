@@ -6,10 +6,11 @@ use Rattle.fm_run.specs.declared.task.Name.{Name}
 use Rattle.fm_run.specs.Runs.{Halt, Budget, Run, Work}
 use Rattle.fm_run.specs.Tasks.{naming}
 
--- a class of another length than the cocycles, a vector that is no cocycle, or a generator of the target outside the source
+-- a class with so many entries where another number is needed; a vector that is no cocycle, by the first component, from 1, of its image
+-- that isn't zero; or a generator of the target outside the source, by its number from 1
 pub data Refusal : Type 0 where
-  wrong_length : Refusal
-  not_a_cocycle : Refusal
+  wrong_length : (found needed : ℕ) → Refusal
+  not_a_cocycle : (component : ℕ) → Refusal
   not_contained : ℕ → Refusal
 
 -- why a plan ends without an answer: a task that halted, or a refusal

@@ -1,17 +1,17 @@
 // Laws of plans: a plan that ends with an answer has established it.
-ghost use Rattle.std.specs.Prelude.{Ok, Result, true, ℕ, ◌+◌, ◌≡◌};
+ghost use Rattle.std.specs.Prelude.{Err, Ok, Result, true, ℕ, ◌+◌, ◌≡◌};
 ghost use Rattle.fm_graphs.specs.Within.{are_within};
 ghost use Rattle.fm_limit.specs.Facts.{DegreeFacts, IsFirstRepeat};
 ghost use Rattle.fm_limit.specs.Verdicts.{Holds, RestsOn};
 ghost use Rattle.fm_plan.specs.Following.{FollowsPlan};
-ghost use Rattle.fm_plan.specs.Tasks.{task};
+ghost use Rattle.fm_plan.specs.Tasks.{Refusal, refused, task};
 ghost use Rattle.fm_plan.specs.Queries.{BaseOf, Found, Query, base_plan, plan, verdict};
 ghost use Rattle.fm_plan.specs.Results.{Ideal, kernels, resolved, stable_index};
 ghost use Rattle.fm_run.specs.Runs.{Follows, Work};
 ghost use Rattle.fm_run.specs.Tasks.{stopped_in};
 ghost use Rattle.fm_run.specs.declared.stop.Stop.{Stop};
 ghost use Rattle.fm_run.specs.declared.task.Name.{Name};
-ghost use Rattle.fm_plan.specs.Sizes.{HasSizes, size_of};
+ghost use Rattle.fm_plan.specs.Sizes.{HasSizes, IsRefusalOf, size_of};
 ghost use Rattle.fm_plan.specs.Within.{IsBaseWithin, IsFoundWithin, IsQueryWithin};
 ghost use Rattle.fm_run.specs.declared.task.Side.{Side};
 ghost use Rattle.fm_poly.specs.declared.ring.Ring.{Ring};
@@ -55,4 +55,10 @@ pub fn what_a_plan_finds_is_within_the_bound()
 pub fn what_a_plan_finds_has_sizes_within_its_units()
     ensures { (r : Ring) (q : Query r) (units left : ℕ) (x : Found r)
         → plan r q units ≡ record { end = Ok x; left = left } → HasSizes r (units + size_of r q) x }
+{}
+
+/// Which queries are refused, and with which numbers: they are at most the units and the size of what is asked, or how long its class is.
+pub fn the_numbers_of_a_refusal_are_within_its_units()
+    ensures { (r : Ring) (q : Query r) (units left : ℕ) (why : Refusal)
+        → plan r q units ≡ record { end = Err (refused why); left = left } → IsRefusalOf r (units + size_of r q) q why }
 {}

@@ -145,10 +145,12 @@ abbrev pub is_principal : Option Ideal → Bool
 is_principal None = false
 is_principal (Some i) = nat_eq (length i.generators) 1
 
--- the queries that the program answers: membership, and classes of degree 1 of principal ideals
+-- the queries that the program answers: membership, resolutions, Ext, and classes of degree 1 of principal ideals
 abbrev pub is_built : List Ideal → Query → Bool
 is_built ideals (queries.TheVariants.Class i k e z) = nat_eq i 1 && (is_principal (slice_get ideals k) && nat_eq (length z) 1)
 is_built ideals (queries.TheVariants.Member k f) = true
+is_built ideals (queries.TheVariants.Resolution i k) = true
+is_built ideals (queries.TheVariants.ExtOf i k) = true
 is_built ideals z = false
 
 -- a query that isn't answered yet is a fault after every other of its line

@@ -152,7 +152,7 @@ fn is_built(problem: &Problem, query: &Query) -> bool
         Query::Class { i, ideal, e: _, z } => {
             *i == 1 && (is_principal(problem.ideals.as_slice(), *ideal) && z.len() == 1)
         }
-        Query::Member { .. } => true,
+        Query::Member { .. } | Query::Resolution { .. } | Query::ExtOf { .. } => true,
         _ => false,
     }
 }

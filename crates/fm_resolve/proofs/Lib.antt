@@ -1,2 +1,4 @@
 pub mod Memberships
 pub mod ResolvingRuns
+pub mod Stages
+pub mod Resolved

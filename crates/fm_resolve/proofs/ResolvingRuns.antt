@@ -1,6 +1,7 @@
 -- Resolutions, task by task.
 use Rattle.std.proofs.Common.{ℕ, zero, suc, ◌-◌, ◌≡◌, List, ◌∷◌, ◌+◌, ◌≤◌, length, option_map, IfOk, Result, Ok, Err, sym, ap, ◌∙◌, subst, arith}
 use Rattle.fm_limit.specs.ResolvedIdeal.{row}
+use Rattle.fm_limit.proofs.MatrixWords.{shape_rows}
 use Rattle.fm_poly.specs.declared.ring.Ring.{Ring}
 use Rattle.fm_run.specs.declared.stop.Stop.{Stop}
 use Rattle.fm_run.specs.declared.task.Stopped.{Stopped}
@@ -20,15 +21,15 @@ use Rattle.fm_run.specs.Runs.{Ending, Halts, halt_of}
 use Rattle.fm_run.specs.Tasks.{stopped_in}
 use Rattle.fm_plan.specs.Tasks.{Unanswered, Plan, stopped, task}
 use Rattle.fm_plan.proofs.Following.{told_of}
+use Rattle.fm_graphs.proofs.Preimages.{generating_is, kernel_from}
 use Rattle.fm_plan.proofs.Resolving.{resolution_is}
 use Rattle.fm_limit.specs.ResolvedIdeal.{IsResolutionOf}
 use Rattle.fm_plan.specs.Results as plans
 use Rattle.fm_plan.specs.Base.{resolving, resolution_plan}
 use Rattle.fm_plan.specs.Following.{FollowsPlan, unanswered_by}
-use Rattle.fm_syz.specs.GraphValues.{GraphValue, graph_meaning}
-use Rattle.fm_syz.specs.GeneratorValues.{GeneratorsValue, generators_meaning}
-use Rattle.fm_resolve.specs.declared.resolution.Resolution.{Resolution}
-use Rattle.fm_resolve.specs.Resolutions.{generators_from, resolution_value, resolve_step}
+use Rattle.fm_syz.specs.GraphValues.{GraphValue, IsGraph, graph_meaning}
+use Rattle.fm_syz.specs.GeneratorValues.{GeneratorsValue, AreGenerators, generators_meaning}
+use Rattle.fm_resolve.specs.Resolutions.{ResolutionValue, AreKernelGenerators, generators_from, resolution_value, resolve_step}
 
 module _ (r : Ring) (side : Side) where
   abbrev step : ℕ → Graph r → Plan (Preimage r)
@@ -83,6 +84,28 @@ step_told r side j a g t result answer old new wide is told h =
     (told ∙ ap (λ (t : Task). stopped_in t result) (is ∙ ap (λ n. record { side = side; name = Resolve; number = n }) number))
     (subst (λ n. Follows (generators_meaning r g) result old new (generating r n 0 G old)) all (subst (λ b. Follows (generators_meaning r g) result old new (generating r a b G old)) none h))
 
+-- what the generators of a kernel are
+pub step_exact : (a : ℕ) (g : GraphValue) (result : Result GeneratorsValue Stop) (old new : ℕ) → a ≡ length g.matrix.columns → IsGraph g
+    → (let r = g.matrix.ring in Follows (generators_meaning r g) result old new (generating r a (length g.matrix.columns - a) (graph_meaning r g) old))
+    → IfOk result (AreGenerators g) → IfOk result (λ x. x.graph.matrix.rows ≡ a) → IfOk result (AreKernelGenerators g)
+step_exact a g (Err e) old new wide G h generate rows = tt
+step_exact a g (Ok x) old new wide G h generate rows =
+    let r = g.matrix.ring in
+    let G' = graph_meaning r g in
+    let none : length g.matrix.columns - a ≡ 0 = omega (arith, wide) in
+    let all : a ≡ width r G' = wide ∙ sym (map_length (column_meaning r) g.matrix.columns) in
+    let ends =
+    (subst (λ n. Follows {X = GeneratorsValue} (generators_meaning r g) (Ok x) old new (generating r n 0 G' old)) all (subst (λ b. Follows {X = GeneratorsValue} (generators_meaning r g) (Ok x) old new (generating r a b G' old)) none h)) in
+    record {
+      generators = generate;
+      rows = rows ∙ wide;
+      below = shape_rows r.prime r.vars 0 _ _ (generating_is r (width r G') 0 G' G.completed (plain (width r G')) old new (generators_meaning r g x) ends).x_shape;
+      exact = kernel_from r G' G.completed old new (generators_meaning r g x) ends;
+    }
+  where
+    plain : (n : ℕ) → n ≡ n + 0
+    plain n = omega arith
+
 -- what was resolved from another spelling of the graph
 pub later_told : {Y : Type 0} (items : Y → List GeneratorsValue) (r : Ring) (side : Side) (k j i : ℕ) (x y : GraphValue) (result : Result Y Stopped) (old new : ℕ) → y ≡ x → x.matrix.ring ≡ r → i ≡ suc j
     → (let s = y.matrix.ring in FollowsPlan (λ xs. generators_from s y (items xs)) result old new (resolving s side k i (graph_meaning s y) old))
@@ -103,22 +126,22 @@ module _ (r : Ring) (side : Side) (i : ℕ) (fs : plans.Ideal r) where
   after_spends : (g : Graph r) → Spends (after_first g)
   after_spends g = then_spends (resolving r side i 1 g) (λ next. ready (record { first = g; next = next })) (resolving_spends r side i 1 g) (λ next units. omega arith)
 
-  pub first_stops : (old new : ℕ) (z : Stopped) → FollowsPlan {X = GraphValue} (λ g. graph_meaning r g) (Err z) old new (first old) → FollowsPlan {X = Resolution} (resolution_value r) (Err z) old new (resolution_plan r side i fs old)
+  pub first_stops : (old new : ℕ) (z : Stopped) → FollowsPlan {X = GraphValue} (λ g. graph_meaning r g) (Err z) old new (first old) → FollowsPlan {X = ResolutionValue} (resolution_value r) (Err z) old new (resolution_plan r side i fs old)
   unfolding resolution_plan
   first_stops old new z h = row_stops first after_first old new (λ (g : GraphValue). graph_meaning r g) (resolution_value r) unanswered_by z after_spends h
 
   module _ (old mid new : ℕ) (g : GraphValue) (goes : FollowsPlan (λ (g : GraphValue). graph_meaning r g) (Ok g) old mid (first old)) where
-    after_goes : (answer : Result Resolution Stopped) → FollowsPlan (resolution_value r) answer mid new (after_first (graph_meaning r g) mid) → FollowsPlan (resolution_value r) answer old new (resolution_plan r side i fs old)
+    after_goes : (answer : Result ResolutionValue Stopped) → FollowsPlan (resolution_value r) answer mid new (after_first (graph_meaning r g) mid) → FollowsPlan (resolution_value r) answer old new (resolution_plan r side i fs old)
     unfolding resolution_plan
     after_goes answer h = row_goes first after_first old new (graph_meaning r g) mid goes (graph_spends r (row r.prime r.vars fs)) (resolution_value r) unanswered_by answer h
 
-    pub next_stops : {Y : Type 0} (view : Y → List (Preimage r)) (z : Stopped) → FollowsPlan view (Err z) mid new (resolving r side i 1 (graph_meaning r g) mid) → FollowsPlan {X = Resolution} (resolution_value r) (Err z) old new (resolution_plan r side i fs old)
+    pub next_stops : {Y : Type 0} (view : Y → List (Preimage r)) (z : Stopped) → FollowsPlan view (Err z) mid new (resolving r side i 1 (graph_meaning r g) mid) → FollowsPlan {X = ResolutionValue} (resolution_value r) (Err z) old new (resolution_plan r side i fs old)
     next_stops view z h = after_goes (Err z) (row_stops (resolving r side i 1 (graph_meaning r g)) (λ next. ready (record { first = graph_meaning r g; next = next })) mid new view (resolution_value r) unanswered_by z (λ next units. omega arith) h)
 
-    pub next_goes : (x : Resolution) (next : List (Preimage r)) → resolving r side i 1 (graph_meaning r g) mid ≡ record { end = Ok next; left = new } → resolution_value r x ≡ record { first = graph_meaning r g; next = next }
+    pub next_goes : (x : ResolutionValue) (next : List (Preimage r)) → resolving r side i 1 (graph_meaning r g) mid ≡ record { end = Ok next; left = new } → resolution_value r x ≡ record { first = graph_meaning r g; next = next }
         → FollowsPlan (resolution_value r) (Ok x) old new (resolution_plan r side i fs old)
     next_goes x next e same = after_goes (Ok x) (row_goes (resolving r side i 1 (graph_meaning r g)) (λ next. ready (record { first = graph_meaning r g; next = next })) mid new next new e (resolving_spends r side i 1 (graph_meaning r g)) (resolution_value r) unanswered_by (Ok x)
         (ap (λ y. record { end = Ok y; left = new }) (sym same)))
 
-  pub resolves : (x : Resolution) (old new : ℕ) → resolution_plan r side i fs old ≡ record { end = Ok (resolution_value r x); left = new } → IsResolutionOf r.prime r.vars fs i (plans.differentials_of r (resolution_value r x))
+  pub resolves : (x : ResolutionValue) (old new : ℕ) → resolution_plan r side i fs old ≡ record { end = Ok (resolution_value r x); left = new } → IsResolutionOf r.prime r.vars fs i (plans.differentials_of r (resolution_value r x))
   resolves x old new e = (resolution_is r side i fs old new (resolution_value r x) e).resolution

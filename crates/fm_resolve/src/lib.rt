@@ -2,6 +2,7 @@
 // Each matrix costs the trim of the syzygies of the one before it and a completion; the test of membership is one division.
 #![tactic(auto)]
 
+pub mod laws;
 pub mod membership;
 pub mod resolution;
 pub(crate) mod rows;

@@ -44,6 +44,7 @@ pub fn decide_member(
     requires polynomial { f.now.ring ≡ ring }
     ensures follows { let fs = column_meaning ring generators.now in let g = meaning ring f.now.terms in
         FollowsPlan (membership_value ring fs g) result work.old work.new (plan ring (ask_member fs g) work.old) }
+    ensures ring { IfOk result (λ m. m.first.matrix.ring ≡ ring) }
     ensures decides { IfOk result (IsMembership ring (column_meaning ring generators.now) (meaning ring f.now.terms)) }
 {
     let first = in_task(

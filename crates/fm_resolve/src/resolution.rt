@@ -1,27 +1,110 @@
 // Resolutions of ideals.
-ghost use Rattle.std.specs.Prelude.{IfErr, IfOk, length, ◌+◌, ◌<◌, ◌^◌, ◌∷◌, ◌≡◌, ◌≤◌};
+ghost use Rattle.std.specs.Prelude.{IfErr, IfOk, Some, length, map, slice_get, take, ◌+◌, ◌-◌, ◌<◌, ◌^◌, ◌∷◌, ◌≡◌, ◌≤◌};
 ghost use Rattle.fm_limit.specs.ResolvedIdeal.{IsResolutionOf};
 ghost use Rattle.fm_mat.specs.Matrices.{column_meaning};
 ghost use Rattle.fm_plan.specs.Base as plans;
 ghost use Rattle.fm_plan.specs.Base.{resolution_plan};
 ghost use Rattle.fm_plan.specs.Following.{FollowsPlan};
 ghost use Rattle.fm_plan.specs.Results.{differentials_of};
-ghost use Rattle.fm_resolve.specs.Resolutions.{generators_from, resolution_value, resolve_step};
+ghost use Rattle.fm_resolve.specs.Resolutions.{
+  AreExactFrom,
+  AreKernelGenerators,
+  IsResolution,
+  generators_from,
+  graphs_of,
+  resolution_value,
+  resolve_step,
+};
 ghost use Rattle.fm_syz.specs.GeneratorValues.{generators_meaning};
-ghost use Rattle.fm_syz.specs.GraphValues.{graph_meaning};
+ghost use Rattle.fm_syz.specs.GraphValues.{GraphValue, IsGraph, graph_meaning};
 ghost use Rattle.fm_vec.specs.Components.{AreOver};
 
 use crate::rows::first_graph;
+use fm_mat::Matrix;
 use fm_poly::{Poly, Ring};
 use fm_run::{Name, Side, Stop, Stopped, Task, Work, in_task};
 use fm_syz::{Generators, Graph, generators_of};
-use std::alloc::Global;
+use std::alloc::{AllocError, Global};
+use std::marker::Model;
 
 /// The completed graph of d_1, and generators of the kernels of d_1, d_2, ..: each `found` is the next matrix, and has a completed graph.
 #[derive(Drop)]
 pub struct Resolution {
-    pub first: Graph,
-    pub next: Vec<Generators>,
+    first: Graph,
+    next: Vec<Generators>,
+}
+
+impl Model for Resolution {
+    ghost use Rattle.fm_resolve.specs.Resolutions.{IsResolution, ResolutionValue};
+
+    ghost Value = { ResolutionValue };
+
+    ghost view = { λ x. record { first = x.first; next = x.next.items } };
+
+    ghost invariant = { λ x. IsResolution (record { first = x.first; next = x.next.items }) };
+}
+
+impl Resolution {
+    /// The completed graph of d_1.
+    pub fn first(&self) -> &Graph
+        ensures same { result.now ≡ self.now.first }
+        ensures resolution { IsResolution self.now }
+    {
+        &self.first
+    }
+
+    /// Generators of the kernels of d_1, d_2, ..
+    pub fn next(&self) -> &[Generators]
+        ensures same { result.now ≡ self.now.next }
+        ensures resolution { IsResolution self.now }
+    {
+        &self.next
+    }
+
+    pub fn ring(&self) -> Ring
+        ensures { result ≡ self.now.first.matrix.ring }
+    {
+        self.first.ring()
+    }
+
+    /// The completed graph of d_j, counted from 1.
+    pub fn graph(&self, j: usize) -> &Graph
+        requires low { 1 ≤ j }
+        requires high { j ≤ length self.now.next + 1 }
+        ensures same { slice_get (graphs_of self.entry.now) (j - 1) ≡ Some result.now }
+        ensures ring { result.now.matrix.ring ≡ self.now.first.matrix.ring }
+        ensures resolution { IsResolution self.now }
+    {
+        if j == 1 {
+            return &self.first;
+        }
+        self.next[j - 2].graph()
+    }
+
+    /// d_j, counted from 1.
+    pub fn differential(&self, j: usize) -> &Matrix
+        requires low { 1 ≤ j }
+        requires high { j ≤ length self.now.next + 1 }
+        ensures same { slice_get (map (λ (g : GraphValue). g.matrix) (graphs_of self.entry.now)) (j - 1) ≡ Some result.now }
+        ensures ring { result.now.ring ≡ self.now.first.matrix.ring }
+        ensures resolution { IsResolution self.now }
+    {
+        self.graph(j).matrix()
+    }
+
+    /// The completed graphs of d_1, d_2, .., count of them.
+    pub fn graphs(&self, alloc: Global, count: usize) -> Result<Vec<&Graph>, AllocError>
+        requires { count ≤ length self.now.next + 1 }
+        ensures value { IfOk result (λ gs. map (λ g. g.now) gs.items ≡ take count (graphs_of self.now)) }
+        ensures resolution { IsResolution self.now }
+    {
+        let _ = &self.first;
+        let mut graphs = Vec::new(alloc);
+        for j in 0..count {
+            graphs.push(self.graph(j + 1))?;
+        }
+        Ok(graphs)
+    }
 }
 
 /// A resolution through this degree of the ideal of the generators, by the tasks `resolve 1`, `resolve 2`, ..
@@ -42,6 +125,8 @@ pub fn resolve(
         (resolution_plan ring side degree (column_meaning ring generators.now) work.old) }
     ensures resolves { IfOk result (λ x.
         IsResolutionOf ring.prime ring.vars (column_meaning ring generators.now) degree (differentials_of ring (resolution_value ring x))) }
+    ensures ring { IfOk result (λ x. x.first.matrix.ring ≡ ring) }
+    ensures count { IfOk result (λ x. length x.next ≡ degree) }
 {
     let first = in_task(
         resolve_task(side, 0),
@@ -63,8 +148,10 @@ fn resolving(
     requires some { 1 ≤ g.now.matrix.ring.vars }
     requires few { g.now.matrix.ring.vars ≤ 8 }
     requires room { j + count < 256 }
-    ensures { let r = g.now.matrix.ring in FollowsPlan (λ xs. generators_from r g.now xs.items) result work.old work.new
+    ensures follows { let r = g.now.matrix.ring in FollowsPlan (λ xs. generators_from r g.now xs.items) result work.old work.new
         (plans.resolving r side count j (graph_meaning r g.now) work.old) }
+    ensures exact { IfOk result (λ xs. AreExactFrom g.now xs.items) }
+    ensures count { IfOk result (λ xs. length xs.items ≡ count) }
 {
     if count == 0 {
         return Ok(Vec::new(alloc));
@@ -87,9 +174,9 @@ fn next_generators(
     requires few { g.now.matrix.ring.vars ≤ 8 }
     ensures follows { let r = g.now.matrix.ring in FollowsPlan (generators_meaning r g.now) result work.old work.new
         (resolve_step r side j (graph_meaning r g.now) work.old) }
-    ensures ring { IfOk result (λ x. x.graph.matrix.ring ≡ g.now.matrix.ring) }
+    ensures exact { IfOk result (AreKernelGenerators g.now) }
 {
-    let width = g.width();
+    let width = g.matrix().cols();
     in_task(resolve_task(side, j), generators_of(alloc, g, width, work))
 }
 

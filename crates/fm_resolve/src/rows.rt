@@ -2,7 +2,7 @@
 ghost use Rattle.std.specs.Prelude.{IfOk, length, ◌+◌, ◌<◌, ◌^◌, ◌≡◌, ◌≤◌, ◌∷◌, []};
 ghost use Rattle.fm_graphs.specs.Graphs as runs;
 ghost use Rattle.fm_run.specs.Runs.{Follows};
-ghost use Rattle.fm_syz.specs.GraphValues.{graph_meaning};
+ghost use Rattle.fm_syz.specs.GraphValues.{IsGraph, graph_meaning};
 ghost use Rattle.fm_limit.specs.ResolvedIdeal.{row};
 ghost use Rattle.fm_mat.specs.Matrices.{column_meaning, matrix_meaning};
 ghost use Rattle.fm_vec.specs.Components.{AreOver};
@@ -46,6 +46,7 @@ pub(crate) fn first_graph(
         (runs.graph_run ring (row ring.prime ring.vars (column_meaning ring generators.now)) work.old) }
     ensures ring { IfOk result (λ g. g.matrix.ring ≡ ring) }
     ensures rows { IfOk result (λ g. g.matrix.rows ≡ 1) }
+    ensures complete { IfOk result IsGraph }
 {
     let row = generators_row(alloc, ring, generators)?;
     graph_of(alloc, row, work)

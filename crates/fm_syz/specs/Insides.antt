@@ -1,12 +1,12 @@
 -- The answer whether columns lie in an image, as the standard run gives it.
-use Rattle.std.specs.Prelude.{ℕ, zero, suc, List, [], ◌∷◌, length, ◌≡◌, if◌then◌else◌}
+use Rattle.std.specs.Prelude.{ℕ, zero, suc, List, [], ◌∷◌, length, ◌≡◌, ◌<◌, ◌^◌, if◌then◌else◌}
 use Rattle.fm_algebra.specs.PolynomialMatrices as algebra
 use Rattle.fm_algebra.specs.PolynomialMatrices.{matrix_product, vector_product}
 use Rattle.fm_complete.specs.Completions.{numbers}
 use Rattle.fm_complete.specs.Reductions.{Reduced}
 use Rattle.fm_vec.specs.Components.{AreOver}
 use Rattle.fm_poly.specs.declared.ring.Ring.{Ring}
-use Rattle.fm_mat.specs.Matrices.{column_meaning, columns_meaning}
+use Rattle.fm_mat.specs.Matrices.{AreColumns, column_meaning, columns_meaning}
 use Rattle.fm_graphs.specs.Listing.{VectorOf}
 use Rattle.fm_graphs.specs.Graphs.{MatrixOf, Graph, Outside, all_inside, first_outside, with_solution, is_inside, solution}
 use Rattle.fm_graphs.specs.Graphs as runs
@@ -40,6 +40,11 @@ IsFirstOutside r A k [] = ⊥
 IsFirstOutside r A zero (v ∷ vs) = ⊥
 IsFirstOutside r A (suc zero) (v ∷ vs) = ¬ (algebra.InImage r.prime r.vars A v)
 IsFirstOutside r A (suc (suc k)) (v ∷ vs) = algebra.InImage r.prime r.vars A v × IsFirstOutside r A (suc k) vs
+
+-- solutions are columns over r with m entries, fewer than 2^32
+abbrev pub HasColumns : (r : Ring) → ℕ → Inside → Type 0
+HasColumns r m (All ws) = AreColumns r m ws.items × (length ws.items < 2 ^ 32)
+HasColumns r m (First o) = Unit {0}
 
 -- a solution of A * W = M, or the first column of M that is not in the image of A
 abbrev pub IsInsideOf : (r : Ring) → MatrixOf r → MatrixOf r → Inside → Type 0

@@ -7,7 +7,7 @@ ghost use Rattle.fm_graphs.specs.Listing.{terms_of};
 ghost use Rattle.fm_groebner.specs.Graphs.{graph};
 ghost use Rattle.fm_mat.specs.Matrices.{matrix_meaning};
 ghost use Rattle.fm_run.specs.Runs.{Follows};
-ghost use Rattle.fm_syz.specs.GraphValues.{graph_meaning};
+ghost use Rattle.fm_syz.specs.GraphValues.{IsGraph, graph_meaning};
 
 use crate::column_vectors::vectors;
 use crate::graph::Graph;
@@ -25,6 +25,7 @@ pub fn graph_of(alloc: Global, a: Matrix, work: &mut Work) -> Result<Graph, Stop
     ensures follows { let r = a.ring in
         Follows (λ g. graph_meaning r g) result work.old work.new (graph_run r (matrix_meaning r a) work.old) }
     ensures matrix { IfOk result (λ g. g.matrix ≡ a) }
+    ensures complete { IfOk result IsGraph }
 {
     let columns = graph_columns(alloc, &a)?;
     let basis = match complete_all(

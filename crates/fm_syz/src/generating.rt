@@ -57,6 +57,8 @@ pub fn kernel(alloc: Global, a: Matrix, work: &mut Work) -> Result<Preimage, Sto
     requires few { a.ring.vars ≤ 8 }
     ensures follows { let r = a.ring in Follows (preimage_meaning r) result work.old work.new (kernel_run r (matrix_meaning r a) work.old) }
     ensures matrix { IfOk result (λ p. p.whole.matrix ≡ a) }
+    ensures rows { IfOk result (λ p. p.generators.graph.matrix.rows ≡ length a.columns) }
+    ensures ring { IfOk result (λ p. p.generators.graph.matrix.ring ≡ a.ring) }
     ensures generates { let r = a.ring in IfOk result (λ p.
         GeneratesKernel r.prime r.vars (matrix_meaning r p.generators.graph.matrix) (matrix_meaning r a)) }
 {
@@ -83,8 +85,11 @@ pub fn preimage(alloc: Global, a: &Matrix, b: &Matrix, work: &mut Work) -> Resul
     requires few { a.now.ring.vars ≤ 8 }
     ensures follows { let r = a.now.ring in Follows (preimage_meaning r) result work.old work.new
         (preimage_run r (matrix_meaning r a.now) (matrix_meaning r b.now) work.old) }
+    ensures whole { IfOk result (λ p. p.whole.matrix.ring ≡ a.now.ring) }
     ensures matrix { let r = a.now.ring in IfOk result (λ p.
         matrix_meaning r p.whole.matrix ≡ matrix_beside r.prime r.vars (matrix_meaning r a.now) (matrix_meaning r b.now)) }
+    ensures rows { IfOk result (λ p. p.generators.graph.matrix.rows ≡ length a.now.columns) }
+    ensures ring { IfOk result (λ p. p.generators.graph.matrix.ring ≡ a.now.ring) }
     ensures generates { let r = a.now.ring in IfOk result (λ p.
         GeneratesPreimage r.prime r.vars (matrix_meaning r p.generators.graph.matrix) (matrix_meaning r a.now) (matrix_meaning r b.now)) }
 {

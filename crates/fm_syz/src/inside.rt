@@ -1,11 +1,11 @@
 // Whether columns lie in an image.
-ghost use Rattle.std.specs.Prelude.{IfOk, ◌≡◌, ◌≤◌};
+ghost use Rattle.std.specs.Prelude.{IfOk, length, ◌≡◌, ◌≤◌};
 ghost use Rattle.fm_run.specs.Runs.{Follows};
 ghost use Rattle.fm_algebra.specs.PolynomialMatrices.{matrix_unit};
 ghost use Rattle.fm_mat.specs.Matrices.{AreColumns, matrix_meaning};
 ghost use Rattle.fm_graphs.specs.Graphs.{inside_run, whole_run};
 ghost use Rattle.fm_syz.specs.GraphValues.{IsGraph, graph_meaning};
-ghost use Rattle.fm_syz.specs.Insides.{IsInsideOf, inside_value};
+ghost use Rattle.fm_syz.specs.Insides.{HasColumns, IsInsideOf, inside_value};
 
 use crate::blocks::is_below;
 use crate::graph::Graph;
@@ -37,6 +37,7 @@ pub fn inside_of(alloc: Global, m: &Matrix, g: &Graph, work: &mut Work) -> Resul
     requires rows { m.now.rows ≡ g.now.matrix.rows }
     ensures follows { let r = g.now.matrix.ring in Follows (inside_value r) result work.old work.new
         (inside_run r (matrix_meaning r m.now) (graph_meaning r g.now) work.old) }
+    ensures columns { IfOk result (HasColumns g.now.matrix.ring (length g.now.matrix.columns)) }
     ensures solves { let r = g.now.matrix.ring in IfOk result (IsInsideOf r (matrix_meaning r g.now.matrix) (matrix_meaning r m.now)) }
 {
     lift_to_the_first_outside(alloc, m, g, work)
@@ -48,6 +49,7 @@ pub fn whole_of(alloc: Global, g: &Graph, work: &mut Work) -> Result<Inside, Sto
     requires few { g.now.matrix.ring.vars ≤ 8 }
     ensures follows { let r = g.now.matrix.ring in Follows (inside_value r) result work.old work.new
         (whole_run r (graph_meaning r g.now) work.old) }
+    ensures columns { IfOk result (HasColumns g.now.matrix.ring (length g.now.matrix.columns)) }
     ensures solves { let r = g.now.matrix.ring in
         IfOk result (IsInsideOf r (matrix_meaning r g.now.matrix) (matrix_unit r.prime r.vars g.now.matrix.rows)) }
 {
@@ -68,6 +70,7 @@ fn lift_to_the_first_outside(
     ensures shape { AreColumns m.now.ring m.now.rows m.now.columns }
     ensures follows { let r = g.now.matrix.ring in Follows (inside_value r) result work.old work.new
         (inside_run r (matrix_meaning r m.now) (graph_meaning r g.now) work.old) }
+    ensures columns { IfOk result (HasColumns g.now.matrix.ring (length g.now.matrix.columns)) }
 {
     let ring = g.ring();
     let rows = g.rows();

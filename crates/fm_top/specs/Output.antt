@@ -7,7 +7,8 @@ use Rattle.fm_problem.specs.declared.problem.Problem as problems
 use Rattle.fm_problem.specs.Faults.{Fault, fault_text}
 use Rattle.fm_problem.specs.Problems.{problem_of}
 use Rattle.fm_report.specs.Holding.{VerdictsHold}
-use Rattle.fm_decide.specs.Answers.{answers, are_answered, report_bytes}
+use Rattle.fm_answers.specs.Answers.{are_answered}
+use Rattle.fm_decide.specs.Answers.{answers, report_bytes}
 use Rattle.fm_top.specs.Words.{budget_of}
 
 -- a status and the bytes written

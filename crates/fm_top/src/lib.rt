@@ -3,8 +3,6 @@
 
 mod deciding;
 mod reply;
-#[cfg(test)]
-mod resolution_tests;
 mod running;
 #[cfg(test)]
 mod tests;

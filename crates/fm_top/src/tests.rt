@@ -14,7 +14,7 @@ struct Row {
     written: &'static [u8],
 }
 
-const ROWS: [Row; 36] = [
+const ROWS: [Row; 44] = [
     Row {
         words: &["decide", "--budget", "5"],
         text: b"ring 2 x y\nideal I = x, y\nmember I x\n",
@@ -150,6 +150,70 @@ const ROWS: [Row; 36] = [
         failing_writes: &[],
         status: Status::Problem,
         written: b"line 1: syntax\n",
+    },
+    Row {
+        words: &["decide"],
+        text: b"ring 2 x y\nideal I = x^2, x*y\nresolution 1 I\next 1 I\next 2 I\n",
+        failing_reads: &[],
+        failing_writes: &[],
+        status: Status::Done,
+        written: b"report 0\nring 2 x y\norder grevlex\nideal I = x^2, x*y\nquery 1 resolution 1 I\nanswer ranks 1 2 1\ndatum I 1\npart 1 given 1 2 (x^2) (x*y)\nd 1 1\npart 2 given 2 1 (y,x)\nd 2 2\ndone 1\nquery 2 ext 1 I\nanswer generators 1 relations 1\ndatum I 1\npart 1 given 1 2 (x^2) (x*y)\nd 1 1\npart 2 given 2 1 (y,x)\nd 2 2\npart 3 given 1 1 (1)\ntheta 0 3\npart 4 given 2 2 (x^2,0) (0,x*y)\ntheta 1 4\npart 5 given 2 1 (x,y)\nZ 5\npart 6 given 1 1 (x)\nN 6\nU 6\ndone 2\nquery 3 ext 2 I\nanswer generators 1 relations 2\ndatum I 2\npart 1 given 1 2 (x^2) (x*y)\nd 1 1\npart 2 given 2 1 (y,x)\nd 2 2\npart 3 given 1 0\nd 3 3\npart 4 given 1 1 (1)\ntheta 0 4\npart 5 given 2 2 (x^2,0) (0,x*y)\ntheta 1 5\npart 6 given 1 1 (x^2*y)\ntheta 2 6\nZ 4\npart 7 given 1 2 (y) (x)\nN 7\nU 6\ndone 3\nend report\n",
+    },
+    Row {
+        words: &["decide"],
+        text: b"ring 3 x y z\nideal Z = 0\nideal W = 1\nideal A = x, y, z\next 0 Z\nresolution 2 Z\next 1 W\nresolution 3 A\next 3 A\n",
+        failing_reads: &[],
+        failing_writes: &[],
+        status: Status::Done,
+        written: b"report 0\nring 3 x y z\norder grevlex\nideal Z = 0\nideal W = 1\nideal A = x, y, z\nquery 1 ext 0 Z\nanswer generators 1 relations 0\ndatum Z 0\npart 1 given 1 0\nd 1 1\npart 2 given 1 1 (1)\ntheta 0 2\nZ 2\nN 1\nU 2\ndone 1\nquery 2 resolution 2 Z\nanswer ranks 1 0 0 0\ndatum Z 2\npart 1 given 1 0\nd 1 1\npart 2 given 0 0\nd 2 2\nd 3 2\ndone 2\nquery 3 ext 1 W\nanswer generators 1 relations 1\ndatum W 1\npart 1 given 1 1 (1)\nd 1 1\npart 2 given 1 0\nd 2 2\ntheta 0 1\ntheta 1 1\nZ 1\nN 1\nU 1\ndone 3\nquery 4 resolution 3 A\nanswer ranks 1 3 3 1 0\ndatum A 3\npart 1 given 1 3 (x) (y) (z)\nd 1 1\npart 2 given 3 3 (0,z,2*y) (z,0,2*x) (y,2*x,0)\nd 2 2\npart 3 given 3 1 (x,2*y,z)\nd 3 3\npart 4 given 1 0\nd 4 4\ndone 4\nquery 5 ext 3 A\nanswer generators 1 relations 3\ndatum A 3\npart 1 given 1 3 (x) (y) (z)\nd 1 1\npart 2 given 3 3 (0,z,2*y) (z,0,2*x) (y,2*x,0)\nd 2 2\npart 3 given 3 1 (x,2*y,z)\nd 3 3\npart 4 given 1 0\nd 4 4\npart 5 given 1 1 (1)\ntheta 0 5\npart 6 given 3 3 (x^2,0,0) (0,y^2,0) (0,0,z^2)\ntheta 1 6\npart 7 given 3 3 (y^2*z^2,0,0) (0,x^2*z^2,0) (0,0,x^2*y^2)\ntheta 2 7\npart 8 given 1 1 (x^2*y^2*z^2)\ntheta 3 8\nZ 5\nN 1\nU 8\ndone 5\nend report\n",
+    },
+    Row {
+        words: &["decide"],
+        text: b"ring 7 t\norder lex\nideal I = t^3\nideal Z = 0\nresolution 0 I\nresolution 1 I\next 0 I\next 1 I\next 1 Z\nmember I t^4\n",
+        failing_reads: &[],
+        failing_writes: &[],
+        status: Status::Done,
+        written: b"report 0\nring 7 t\norder lex\nideal I = t^3\nideal Z = 0\nquery 1 resolution 0 I\nanswer ranks 1 1\ndatum I 0\npart 1 given 1 1 (t^3)\nd 1 1\ndone 1\nquery 2 resolution 1 I\nanswer ranks 1 1 0\ndatum I 1\npart 1 given 1 1 (t^3)\nd 1 1\npart 2 given 1 0\nd 2 2\ndone 2\nquery 3 ext 0 I\nanswer generators 0 relations 0\ndatum I 0\npart 1 given 1 1 (t^3)\nd 1 1\npart 2 given 1 1 (1)\ntheta 0 2\npart 3 given 1 0\nZ 3\npart 4 given 0 0\nN 4\nU 4\ndone 3\nquery 4 ext 1 I\nanswer generators 1 relations 1\ndatum I 1\npart 1 given 1 1 (t^3)\nd 1 1\npart 2 given 1 0\nd 2 2\npart 3 given 1 1 (1)\ntheta 0 3\npart 4 given 1 1 (t^18)\ntheta 1 4\nZ 3\nN 1\nU 4\ndone 4\nquery 5 ext 1 Z\nanswer generators 0 relations 0\ndatum Z 1\npart 1 given 1 0\nd 1 1\npart 2 given 0 0\nd 2 2\npart 3 given 1 1 (1)\ntheta 0 3\ntheta 1 2\nZ 2\nN 2\nU 2\ndone 5\nquery 6 member I t^4\nanswer yes\npart 1 given 1 1 (t^3)\nd 1 1\ndone 6\nend report\n",
+    },
+    Row {
+        words: &["decide", "--budget", "12"],
+        text: b"ring 2 x y\nideal I = x^2, x*y\nresolution 1 I\next 1 I\n",
+        failing_reads: &[],
+        failing_writes: &[],
+        status: Status::Unanswered,
+        written: b"report 0\nring 2 x y\norder grevlex\nideal I = x^2, x*y\nquery 1 resolution 1 I\nanswer ranks 1 2 1\ndatum I 1\npart 1 given 1 2 (x^2) (x*y)\nd 1 1\npart 2 given 2 1 (y,x)\nd 2 2\ndone 1\nquery 2 ext 1 I\nunanswered budget cocycles\ndone 2\nend report\n",
+    },
+    Row {
+        words: &["decide", "--budget", "3"],
+        text: b"ring 5 x y\norder deglex\nideal I = x + y, x*y\nresolution 2 I\next 0 I\nmember I x^2\n",
+        failing_reads: &[],
+        failing_writes: &[],
+        status: Status::Unanswered,
+        written: b"report 0\nring 5 x y\norder deglex\nideal I = x+y, x*y\nquery 1 resolution 2 I\nunanswered budget resolve 1\ndone 1\nquery 2 ext 0 I\nunanswered budget resolve 1\ndone 2\nquery 3 member I x^2\nunanswered budget resolve 1\ndone 3\nend report\n",
+    },
+    Row {
+        words: &["decide", "--budget", "24"],
+        text: b"ring 2 x y\nideal I = x^2, x*y\next 1 I\n",
+        failing_reads: &[],
+        failing_writes: &[],
+        status: Status::Unanswered,
+        written: b"report 0\nring 2 x y\norder grevlex\nideal I = x^2, x*y\nquery 1 ext 1 I\nunanswered budget relations\ndone 1\nend report\n",
+    },
+    Row {
+        words: &["decide", "--budget", "27"],
+        text: b"ring 2 x y\nideal I = x^2, x*y\next 1 I\n",
+        failing_reads: &[],
+        failing_writes: &[],
+        status: Status::Unanswered,
+        written: b"report 0\nring 2 x y\norder grevlex\nideal I = x^2, x*y\nquery 1 ext 1 I\nunanswered budget morphism\ndone 1\nend report\n",
+    },
+    Row {
+        words: &["decide", "--budget", "28"],
+        text: b"ring 2 x y\nideal I = x^2, x*y\next 1 I\n",
+        failing_reads: &[],
+        failing_writes: &[],
+        status: Status::Done,
+        written: b"report 0\nring 2 x y\norder grevlex\nideal I = x^2, x*y\nquery 1 ext 1 I\nanswer generators 1 relations 1\ndatum I 1\npart 1 given 1 2 (x^2) (x*y)\nd 1 1\npart 2 given 2 1 (y,x)\nd 2 2\npart 3 given 1 1 (1)\ntheta 0 3\npart 4 given 2 2 (x^2,0) (0,x*y)\ntheta 1 4\npart 5 given 2 1 (x,y)\nZ 5\npart 6 given 1 1 (x)\nN 6\nU 6\ndone 1\nend report\n",
     },
     Row {
         words: &["decide"],

@@ -1,17 +1,12 @@
 use Rattle.std.proofs.Common.{◌≡◌, ◌∙◌, ◌&&◌, All, subst}
 use Rattle.std.proofs.lemmas.List.Elements.{All-head}
 use Rattle.fm_problem.specs.Sound.{IsQueryOf}
-use Rattle.fm_decide.proofs.Loops.{and_false, and_true, answered, finished, query_over, skipped}
+use Rattle.fm_decide.proofs.Loops.{and_false, and_true, answered, finished, query_over}
 use Rattle.fm_decide.proofs.answering.push_queries.Goals as goal
 use Rattle.fm_decide.proofs.answering.push_queries.Goals.{then-all, else-all}
 
 pub returns-in_default-clause-text : goal.returns-in_default-clause-text
 returns-in_default-clause-text c = finished c.args.units c.args.problem.now _ c.queries.number _ _ c.in_default.ensures.cases c.queries.invariant.0
-
-pub queries-preserved-in_default-2 : goal.queries-preserved-in_default-2
-queries-preserved-in_default-2 c =
-    skipped c.args.units c.args.problem.now c.in-Some.query.now c.in-Some.rest.now _ c.in_ok-answer.field-0 c.queries.number c.queries.out.items _ c.queries.all _
-    c.in-Some.ensures.cases.0 c.in_ok-answer.ensures.value c.in_default-2.is c.queries.invariant
 
 pub push_block-requires-clause-query : goal.push_block-requires-clause-query
 push_block-requires-clause-query c =
@@ -25,6 +20,6 @@ queries-preserved c =
       | then-all w ↦ w.all-is ∙ and_true c.queries.all done w.if-all.true
       | else-all w ↦ w.all-is ∙ and_false c.queries.all done w.if-all.false
     ] in
-    answered c.args.units c.args.problem.now c.in-Some.query.now c.in-Some.rest.now _ c.in_ok-answer.field-0 c.in-Some-2.answer c.queries.number
-    c.queries.out.items c.push_block.new.out.items _ c.queries.all done c.if-all.all _ c.in-Some.ensures.cases.0 c.in_ok-answer.ensures.value c.in-Some-2.is
+    answered c.args.units c.args.problem.now c.in-Some.query.now c.in-Some.rest.now _ c.in_ok-answer.answer c.queries.number
+    c.queries.out.items c.push_block.new.out.items _ c.queries.all done c.if-all.all _ c.in-Some.ensures.cases.0 c.in_ok-answer.ensures.value
     c.in_ok-push_block.ensures c.is_answer-answered.ensures both c.queries.invariant

@@ -12,11 +12,11 @@ use Rattle.fm_syz.specs.GraphValues.{GraphValue, graph_meaning}
 use Rattle.fm_plan.specs.Base.{lifting}
 use Rattle.fm_plan.specs.Tasks.{Unanswered}
 use Rattle.fm_plan.specs.Following.{unanswered_by}
-use Rattle.fm_lift.specs.Lifts.{AreGraphs, AreInARow, after_the_first, graphs_meaning, matrices_meaning}
+use Rattle.fm_lift.specs.Lifts.{AreGraphs, AreInARow, AreMatricesOver, after_the_first, graphs_meaning, matrices_meaning}
 use Rattle.fm_run.proofs.Parts.{failed}
 use Rattle.fm_lift.proofs.Calls.{plan_wants, told_ok, told_memory}
 use Rattle.fm_lift.proofs.Chains.{Rest, chained_spends, begun, more, stops}
-use Rattle.fm_lift.proofs.LiftChains.{Begins, still_begins, dropped, ends, lift_step, step_spends, lifting_chained, told}
+use Rattle.fm_lift.proofs.LiftChains.{Begins, still_begins, dropped, ends, lift_step, step_spends, lifting_chained, over_more, told}
 use Rattle.fm_lift.proofs.frobenius.frobenius_lift.Goals as goal
 
 pub returns-in_err-theta-clause-follows : goal.returns-in_err-theta-clause-follows
@@ -46,6 +46,7 @@ loop-g-init c =
     let empty : matrices_meaning r c.new-thetas.result.items ≡ [] = ap (matrices_meaning r) c.new-thetas.ensures.items in
     record {
       ring = ring;
+      rings = subst (AreMatricesOver r) (sym c.new-thetas.ensures.items) tt;
       square = rows ∙ sym count;
       row = subst (λ n. AreInARow r n gs) (sym count) c.requires.row;
       first = subst (λ ms. Begins unit (ms ++ matrix_meaning r theta ∷ [])) (sym empty) (ap (λ m. m ∷ []) value);
@@ -120,6 +121,7 @@ loop-g-preserved c =
     c.next_theta.result (Ok next) c.loop-g.work c.next_theta.new.work c.in_ok-theta-2.ensures c.next_theta.ensures.follows in
     record {
       ring = ring ∙ row.0;
+      rings = subst (AreMatricesOver r) (sym kept) (over_more r c.loop-g.thetas.items c.loop-g.theta h.rings h.ring);
       square = rows ∙ sym count;
       row = subst (λ i. AreInARow r (length next.columns) (drop i gs)) index (subst (λ n. AreInARow r n (drop (suc c.loop-g.g-index) gs)) (sym count) row.2);
       first = subst (λ ms. Begins unit (ms ++ matrix_meaning r next ∷ [])) (sym grown) (still_begins unit (done ++ T ∷ []) (matrix_meaning r next ∷ []) h.first);
@@ -152,6 +154,14 @@ returns-clause-first c =
     let kept : c.keep.new.matrices.items ≡ c.loop-g.thetas.items ++ c.loop-g.theta ∷ [] =
     subst (λ x. OnOk x (c.keep.new.matrices.items ≡ c.loop-g.thetas.items ++ c.loop-g.theta ∷ [])) (told_ok c.lift_task-2.result c.keep.result _ c.in_ok-in_task.ensures) c.keep.ensures.items in
     subst (Begins (matrix_unit r.prime r.vars 1)) (sym (ap (matrices_meaning r) kept ∙ map-append (matrix_meaning r) c.loop-g.thetas.items (c.loop-g.theta ∷ []))) c.loop-g.invariant.first
+
+pub returns-clause-rings : goal.returns-clause-rings
+returns-clause-rings c =
+    let r = c.args.ring in
+    let h = c.loop-g.invariant in
+    let kept : c.keep.new.matrices.items ≡ c.loop-g.thetas.items ++ c.loop-g.theta ∷ [] =
+    subst (λ x. OnOk x (c.keep.new.matrices.items ≡ c.loop-g.thetas.items ++ c.loop-g.theta ∷ [])) (told_ok c.lift_task-2.result c.keep.result _ c.in_ok-in_task.ensures) c.keep.ensures.items in
+    subst (AreMatricesOver r) (sym kept) (over_more r c.loop-g.thetas.items c.loop-g.theta h.rings h.ring)
 
 pub returns-clause-lifts : goal.returns-clause-lifts
 returns-clause-lifts c fs i ds R enough at =

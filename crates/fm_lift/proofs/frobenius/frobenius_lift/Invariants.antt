@@ -2,7 +2,7 @@ use Rattle.std.proofs.Common.{length, map, drop, ◌≤◌, ◌≡◌, ◌∷◌
 use Rattle.fm_algebra.specs.PolynomialMatrices.{matrix_unit}
 use Rattle.fm_mat.specs.Matrices.{matrix_meaning}
 use Rattle.fm_plan.specs.Base.{lifting}
-use Rattle.fm_lift.specs.Lifts.{AreGraphs, AreInARow, graphs_meaning, matrices_meaning}
+use Rattle.fm_lift.specs.Lifts.{AreGraphs, AreInARow, AreMatricesOver, graphs_meaning, matrices_meaning}
 use Rattle.fm_lift.proofs.Chains.{Rest}
 use Rattle.fm_lift.proofs.LiftChains.{Begins, lift_step}
 use Rattle.fm_lift.proofs.frobenius.frobenius_lift.Given as goal
@@ -10,6 +10,7 @@ use Rattle.fm_lift.proofs.frobenius.frobenius_lift.Given as goal
 abbrev pub invariant-loop-g : goal.invariant-loop-g
 invariant-loop-g l = record {
   ring : l.theta.ring ≡ l.fn.ring;
+  rings : AreMatricesOver l.fn.ring l.thetas.items;
   square : l.theta.rows ≡ length l.theta.columns;
   row : AreInARow l.fn.ring (length l.theta.columns) (drop l.g-index (map (λ g. g.now) l.graphs));
   first : Begins (matrix_unit l.fn.ring.prime l.fn.ring.vars 1) (matrices_meaning l.fn.ring l.thetas.items ++ matrix_meaning l.fn.ring l.theta ∷ []);

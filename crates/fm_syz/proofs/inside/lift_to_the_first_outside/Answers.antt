@@ -1,7 +1,9 @@
 use Rattle.std.proofs.Common.{Err, ◌+◌, ◌∷◌, ◌++◌, [], suc, length, subst, sym, ap, ◌∙◌, arith}
 use Rattle.fm_run.specs.Runs.{Follows}
 use Rattle.fm_mat.specs.Matrices.{MatrixValue, AreColumns, column_meaning, columns_meaning}
-use Rattle.fm_mat.proofs.Steps.{map_length}
+use Rattle.fm_mat.proofs.Steps.{map_length, columns_more}
+use Rattle.fm_poly.specs.declared.ring.Ring.{Ring}
+use Rattle.fm_vec.specs.Components.{AreOver}
 use Rattle.fm_graphs.specs.Graphs.{inside_run, inside_from, is_below}
 use Rattle.fm_syz.specs.GraphValues.{graph_meaning}
 use Rattle.fm_syz.specs.Insides.{inside_value}
@@ -51,8 +53,12 @@ columns-preserved c =
     let k = suc c.columns.number in
     let here = c.in-Some.ensures.cases.0 in
     let shape : AreColumns r g.matrix.rows (c.in-Some.v.now ∷ c.in-Some.later.now) = subst (AreColumns r g.matrix.rows) here c.columns.invariant.shape in
+    let pushed = c.in_ok-push.ensures.items ∙ ap (λ h. c.columns.solutions.items ++ h ∷ []) c.new.ensures in
     record {
       shape = shape.2;
+      out = subst (AreColumns r (length g.matrix.columns)) (sym pushed) (columns_more r (length g.matrix.columns) c.columns.solutions.items c.in_ok-entries.entries.items c.columns.invariant.out
+          (subst (λ (s : Ring). AreOver s c.in_ok-entries.entries.items) c.ring-ring.ensures c.in_ok-entries.ensures.over) (c.in_ok-entries.ensures.rows ∙ (c.cols-width.ensures ∙ ap (λ (m : MatrixValue). length m.columns) c.matrix.ensures.same)));
+      taken = (let t = c.columns.invariant.taken in omega (arith, t, c.in_ok-push.ensures.len));
       count = omega (arith, c.columns.invariant.count, ap length here);
       spent = (let s = c.columns.invariant.spent in let l = lift_left r G (column_meaning r c.entries.result.now) c.columns.work c.lift_rest.new.work _ c.in-Ok.ensures.follows in omega (arith, s, l));
       run = at_more r G (suc k) c.lift_rest.new.work _ c.columns.solutions.items c.push.new.self.items c.in_ok-entries.entries.items (suc (c.columns.number + 1)) (columns_meaning r c.in-Some.later.now)

@@ -1,0 +1,12 @@
+pub mod PrintedMatrices
+pub mod SpelledTasks
+pub mod Namings
+pub mod Blocks
+pub mod Shapes
+pub mod OneIdeal
+pub mod Membership
+pub mod Maps
+pub mod Support
+pub mod Reports
+pub mod ShortClasses
+pub mod Texts

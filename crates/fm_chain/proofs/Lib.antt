@@ -1,0 +1,4 @@
+pub mod Lifts
+pub mod LinkParts
+pub mod Members
+pub mod StageRuns

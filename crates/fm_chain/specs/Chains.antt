@@ -1,0 +1,70 @@
+-- Chains of kernels as the program holds them, and what they mean.
+use Rattle.std.specs.Prelude.{ℕ, suc, ◌≡◌, List, [], ◌∷◌, map, length, get_or, Option, Some, None, Vec}
+use Rattle.std.specs.Global.{Global}
+use Rattle.fm_poly.specs.declared.ring.Ring.{Ring}
+use Rattle.fm_poly.specs.Polys.{PolyValue}
+use Rattle.fm_mat.specs.declared.column.Column.{Column}
+use Rattle.fm_mat.specs.Matrices.{columns_meaning}
+use Rattle.fm_run.specs.Turns.{Turn, last, again}
+use Rattle.fm_graphs.specs.Graphs as runs
+use Rattle.fm_plan.specs.Results as plans
+use Rattle.fm_plan.specs.Base.{Links, linked}
+use Rattle.fm_syz.specs.GraphValues.{GraphValue, graph_meaning}
+use Rattle.fm_syz.specs.GeneratorValues.{PreimageValue, preimage_meaning}
+use Rattle.fm_syz.specs.Insides.{inside_value}
+use Rattle.fm_syz.specs.declared.inside.Outside.{Outside}
+use Rattle.fm_chain.specs.declared.links.Link.{Link}
+
+-- what contracts see of a chain: K_1, K_2, .., a column of each K_(s+1) outside K_s before the repeat, and the columns of w, where the last member is the one before it times w
+pub record ChainValue : Type 0 where
+  pub links : List PreimageValue
+  pub growth : List Outside
+  pub w : List (List PolyValue)
+
+abbrev pub outside_value : Outside → runs.Outside
+outside_value o = record { column = o.column; by = o.by.items; rest = o.rest.terms }
+
+-- the graphs of K_0, K_1, ..
+abbrev pub member_graphs : GraphValue → List PreimageValue → List GraphValue
+member_graphs relations links = relations ∷ map (λ (x : PreimageValue). x.generators.graph) links
+
+-- the graph of K_s
+abbrev pub member_graph : GraphValue → List PreimageValue → ℕ → GraphValue
+member_graph relations links s = get_or (member_graphs relations links) s relations
+
+-- members over r with m rows
+abbrev pub AreMembersOf : Ring → ℕ → List PreimageValue → Type 0
+AreMembersOf r m [] = Unit {0}
+AreMembersOf r m (x ∷ xs) = (x.generators.graph.matrix.ring ≡ r) × (x.generators.graph.matrix.rows ≡ m) × AreMembersOf r m xs
+
+-- one more where there are columns
+abbrev pub with_last : Option (Vec Column Global) → ℕ → ℕ
+with_last (Some ws) t = suc t
+with_last None t = t
+
+module _ (r : Ring) (relations : GraphValue) where
+  -- the graph of K_t is the stable one
+  abbrev pub chain_meaning : ChainValue → plans.Chain r
+  chain_meaning c = record {
+    links = map (preimage_meaning r) c.links;
+    growth = map outside_value c.growth;
+    stable = graph_meaning r (member_graph relations c.links (length c.growth));
+    w = record { rows = runs.width r (graph_meaning r (member_graph relations c.links (length c.growth))); columns = columns_meaning r c.w };
+  }
+
+  -- members that have all grown
+  abbrev pub links_meaning : List PreimageValue → List Outside → Links r
+  links_meaning links growth = record {
+    links = map (preimage_meaning r) links;
+    growth = map outside_value growth;
+    graph = graph_meaning r (member_graph relations links (length growth));
+  }
+
+  -- how a turn ends: with the chain, where there are columns of w, or with the members so far
+  abbrev pub turn_value : List PreimageValue → List Outside → Option (Vec Column Global) → Turn (Links r) (plans.Chain r)
+  turn_value links growth (Some ws) = last (chain_meaning (record { links = links; growth = growth; w = ws.items }))
+  turn_value links growth None = again (links_meaning links growth)
+
+-- the turn of a next member, and whether its columns lie in the one before it
+abbrev pub link_value : (r : Ring) → Links r → Link → Turn (Links r) (plans.Chain r)
+link_value r c x = linked r c (preimage_meaning r x.member) (inside_value r x.inside)

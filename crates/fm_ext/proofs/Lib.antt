@@ -1,0 +1,3 @@
+pub mod Differentials
+pub mod Morphisms
+pub mod InRow

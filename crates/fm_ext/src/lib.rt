@@ -1,0 +1,13 @@
+// Ext with its generating morphism: generators of the cocycles and of the relations, and the matrix of a move in their coordinates.
+// It costs the lift of Frobenius, a kernel, a preimage, and one division for each generator of the cocycles.
+#![tactic(auto)]
+
+pub(crate) mod cocycles;
+pub mod exts;
+pub(crate) mod lifting;
+pub(crate) mod morphism;
+pub mod presenting;
+pub(crate) mod relations;
+
+pub use exts::Ext;
+pub use presenting::ext;

@@ -1,0 +1,6 @@
+pub mod AnnihilatorRuns
+pub mod ColonRuns
+pub mod InvertRuns
+pub mod PowerRuns
+pub mod ScalarRuns
+pub mod Tables

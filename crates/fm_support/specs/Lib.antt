@@ -1,0 +1,3 @@
+pub mod Annihilators
+pub mod Inverting
+pub mod Powers
