@@ -1,5 +1,5 @@
 // Maps between modules with one generator, against values found by hand.
-ghost use Rattle.std.specs.Prelude.{IfOk, length, ◌≡◌};
+ghost use Rattle.std.specs.Prelude.{IfOk, length, ◌≡◌, ◌≤◌};
 
 use crate::{is_one_to_one, is_zero, phi};
 use fm_gfp::Prime;
@@ -21,6 +21,7 @@ const PLANE: Ring = Ring {
 fn matrix(alloc: Global, full: bool) -> Result<Matrix, AllocError>
     ensures ring { IfOk result (λ m. m.ring ≡ PLANE) }
     ensures rows { IfOk result (λ m. m.rows ≡ 1) }
+    ensures count { IfOk result (λ m. length m.columns ≤ 1) }
 {
     if full {
         let unit = Matrix::unit(alloc, PLANE, 1)?;
