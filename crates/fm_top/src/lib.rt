@@ -2,6 +2,8 @@
 #![tactic(auto)]
 
 mod deciding;
+#[cfg(test)]
+mod query_tests;
 mod reply;
 mod running;
 #[cfg(test)]

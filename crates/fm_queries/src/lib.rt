@@ -1,0 +1,11 @@
+// The plans of queries on the limit, as programs: Ext with its chain of kernels, and what a query asks of the stable kernel. Each runs the tasks
+// of its plan in their order, with the units that are left; it costs what the calls of its tasks cost, and nothing is computed twice.
+#![tactic(auto)]
+
+pub mod base;
+pub mod support;
+pub mod zero;
+
+pub use base::{Base, compute_base, compute_base_of};
+pub use support::{Support, compute_support};
+pub use zero::{Zero, decide_zero};
