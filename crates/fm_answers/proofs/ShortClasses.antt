@@ -260,8 +260,8 @@ module _ (n : ℕ) where
   with_query_kept q t s short w h =
       let count = passed (nat_lt (length q.queries) most_queries) Limit (query_in q s >>= λ z. Ok (plus_query q z)) t h in
       let read = first_read (query_in q s) (λ z. Ok (plus_query q z)) t count.1 in
-      let said = first_read (asked q s) (λ z. if is_built q.ideals z then Ok z else Err NotBuilt) read.0 read.1 in
-      let test = passed (is_built q.ideals said.0) NotBuilt (Ok said.0) read.0 said.2 in
+      let said = first_read (asked q s) (λ z. if is_built z then Ok z else Err NotBuilt) read.0 read.1 in
+      let test = passed (is_built said.0) NotBuilt (Ok said.0) read.0 said.2 in
       subst Kept (same_ok read.2) (queries_more q.queries read.0 w (subst IsAtMost (same_ok test.1) (asked_at_most q s said.0 short said.1)))
 
   ideal_kept : (q s : Problem) (m : Bytes) (texts : List Bytes) → Kept q → with_ideal q m texts ≡ Ok s → Kept s

@@ -1,5 +1,5 @@
 -- The report of a query: what its plan is asked, and what is printed of the plan's end.
-use Rattle.std.specs.Prelude.{ℕ, ◌+◌, ◌<◌, ◌^◌, List, [], ◌∷◌, ◌++◌, map, length, slice_get, Option, Some, None, Result, Ok, Err, Bool, true, ◌&&◌}
+use Rattle.std.specs.Prelude.{ℕ, ◌+◌, ◌<◌, ◌^◌, List, [], ◌∷◌, ◌++◌, map, length, slice_get, Option, Some, None, Result, Ok, Err, Bool, true, false, not, ◌&&◌}
 use Rattle.fm_algebra.specs.Matrix.{listed}
 use Rattle.fm_limit.specs.Facts.{first_entries}
 use Rattle.fm_limit.specs.ResolvedIdeal.{rank}
@@ -17,12 +17,12 @@ use Rattle.fm_problem.specs.declared.query.Query as queries
 use Rattle.fm_run.specs.declared.task.Task.{Task}
 use Rattle.fm_run.specs.Runs.{Halt, Budget, Exponent}
 use Rattle.fm_cert.specs.Kinds as kinds
+use Rattle.fm_cert.specs.Kinds.{EndKind}
 use Rattle.fm_cert.specs.Ends.{task_words}
 use Rattle.fm_cert.specs.Lines.{Line, Row}
 use Rattle.fm_cert.specs.Naming.{Naming, naming_lines, forms_after, differentials, identities, map_naming}
 use Rattle.fm_cert.specs.Questions.{name_at}
 use Rattle.fm_report.specs.Parts.{meant}
-use Rattle.fm_report.specs.Sheets.{is_answer}
 use Rattle.fm_report.specs.Reports.{QueryReport, report_text}
 use Rattle.fm_answers.specs.Printed.{printed_vector, grid_of, grids_of, resolution_namings, ext_namings, base_namings}
 
@@ -174,7 +174,13 @@ query_reports units q zs = map (query_report units q) zs
 unfoldable pub report_bytes : ℕ → Problem → Bytes
 report_bytes units q = report_text q (query_reports units q q.queries)
 
--- each query is answered
+-- the plan stopped in a task
+abbrev pub is_unanswered : EndKind → Bool
+is_unanswered kinds.Budget = true
+is_unanswered kinds.Exponents = true
+is_unanswered kind = false
+
+-- no query is unanswered: each is answered, or refused by name
 abbrev pub are_answered : List QueryReport → Bool
 are_answered [] = true
-are_answered (b ∷ bs) = is_answer b.kind && are_answered bs
+are_answered (b ∷ bs) = not (is_unanswered b.kind) && are_answered bs

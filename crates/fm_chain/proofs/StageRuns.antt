@@ -50,7 +50,7 @@ module _ (r : Ring) (e : ℕ) (w : VectorOf r) where
   abbrev later : ℕ → Option Outside → List (Graph r) → Inside r → Plan (plans.Killed r)
   later s before gs = killed_or r s before (λ o. stages r e w (suc s) (Some o) gs)
 
-  stages_spends : (gs : List (Graph r)) (s : ℕ) (before : Option Outside) → Spends (stages r e w s before gs)
+  pub stages_spends : (gs : List (Graph r)) (s : ℕ) (before : Option Outside) → Spends (stages r e w s before gs)
   stages_spends [] s before = λ units. omega arith
   stages_spends (g ∷ gs) s before = then_spends (task Alone names.Stage s (lift_at r e g w)) (later s before gs) (lift_spends g) (λ y. later_spends y (λ o. stages_spends gs (suc s) (Some o)))
     where

@@ -1,9 +1,10 @@
 // Chains of kernels.
-ghost use Rattle.std.specs.Prelude.{length, suc, ◌≡◌, ◌≤◌};
-ghost use Rattle.fm_chain.specs.Chains.{member_graph};
+ghost use Rattle.std.specs.Prelude.{IfOk, length, map, suc, take, ◌≡◌, ◌≤◌};
+ghost use Rattle.fm_chain.specs.Chains.{member_graph, member_graphs};
 
 use fm_mat::Column;
 use fm_syz::{Graph, Outside, Preimage};
+use std::alloc::{AllocError, Global};
 use std::marker::Model;
 
 /// K_1 .. K_(t+1), a column of each K_(s+1) outside K_s for s below t, and K_(t+1) as K_t times w. K_0 are the relations.
@@ -67,6 +68,23 @@ impl Chain {
         ensures { result.now ≡ member_graph relations.entry.now self.entry.now.links (length self.entry.now.growth) }
     {
         member(relations, &self.links, self.growth.len())
+    }
+
+    /// The graphs of K_0 .. K_t, none of them copied.
+    pub fn graphs<'a>(
+        &'a self,
+        alloc: Global,
+        relations: &'a Graph,
+    ) -> Result<Vec<&'a Graph>, AllocError>
+        ensures { let c = self.entry.now in IfOk result (λ gs.
+            map (λ g. g.now) gs.items ≡ take (suc (length c.growth)) (member_graphs relations.entry.now c.links)) }
+    {
+        let links = self.links();
+        let mut graphs = Vec::new(alloc);
+        for s in 0..links.len() {
+            graphs.push(member(relations, links, s))?;
+        }
+        Ok(graphs)
     }
 }
 

@@ -17,3 +17,4 @@ pub use chaining::kernel_chain;
 pub use classes::coordinates;
 pub use lifting_at::lift_at;
 pub use stages::{Killed, kill_stage};
+pub use twists::twisted_matrix;

@@ -66,13 +66,16 @@ fn graph(alloc: Global, ring: Ring, exponent: u32) -> Result<Graph, Stop>
     graph_of(alloc, m, &mut Work::new(99))
 }
 
-// The stable index for these powers as the relations and the morphism.
-fn stable(alloc: Global, relations: u32, u: u32, units: u32) -> Result<usize, Stop> {
+// The stable index for these powers as the relations and the morphism, and how many graphs there are up to it.
+fn stable(alloc: Global, relations: u32, u: u32, units: u32) -> Result<(usize, usize), Stop> {
     let ring = line();
     let relations = graph(alloc, ring, relations)?;
     let u = matrix(alloc, ring, u)?;
     match kernel_chain(alloc, Side::Alone, &u, &relations, &mut Work::new(units)) {
-        Ok(chain) => Ok(chain.stable()),
+        Ok(chain) => {
+            let graphs = chain.graphs(alloc, &relations)?;
+            Ok((chain.stable(), graphs.len()))
+        }
         Err(stopped) => Err(stopped.stop),
     }
 }
@@ -80,8 +83,8 @@ fn stable(alloc: Global, relations: u32, u: u32, units: u32) -> Result<usize, St
 #[test]
 fn chains(rt: HostRuntime) -> Result<(), Fail> {
     let alloc = rt.alloc();
-    assert!(rt; matches!(stable(alloc, 1, 1, 99), Ok(0)));
-    assert!(rt; matches!(stable(alloc, 2, 3, 99), Ok(2)));
+    assert!(rt; matches!(stable(alloc, 1, 1, 99), Ok((0, 1))));
+    assert!(rt; matches!(stable(alloc, 2, 3, 99), Ok((2, 3))));
     assert!(rt; matches!(stable(alloc, 2, 3, 1), Err(Stop::Budget)));
     Ok(())
 }

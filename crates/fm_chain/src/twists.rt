@@ -14,8 +14,9 @@ use fm_run::Stop;
 use fm_syz::{Graph, twisted};
 use std::alloc::Global;
 
+/// The matrix `a^[q]` for q = p^e, in a run.
 #[tactic(auto, unfolding(fm_graphs::specs::Bounds::twisted_matrix))]
-pub(crate) fn twisted_matrix(alloc: Global, a: &Matrix, e: u8) -> Result<Matrix, Stop>
+pub fn twisted_matrix(alloc: Global, a: &Matrix, e: u8) -> Result<Matrix, Stop>
     ensures follows { (r : Ring) (units : ℕ) → a.now.ring ≡ r → Follows (matrix_meaning r) result units units
         (runs.twisted_matrix r.prime r.vars e (matrix_meaning r a.now) units) }
     ensures ring { IfOk result (λ m. m.ring ≡ a.now.ring) }

@@ -89,7 +89,7 @@ module _ (r : Ring) (m : ℕ) where
         ∙ ap (times r (term r c a)) (component_part g i some within))
         ∙ plus_comm r (part r i w) (times r (term r c a) (part r i g)) ∙ e i ∙ sym (component_part v i some within))
 
-    one_step : (t : VTerm) (ts : List VTerm) (s : Step) (g : List VTerm) → IsFound r members t s g → IsVector r m (t ∷ ts) → multiple_fits s.mono g ≡ true
+    pub one_step : (t : VTerm) (ts : List VTerm) (s : Step) (g : List VTerm) → IsFound r members t s g → IsVector r m (t ∷ ts) → multiple_fits s.mono g ≡ true
         → (by : List ℕ) (rest : List VTerm) → Red members by (cancelled r (s, g) (t ∷ ts)) rest → Red members (s.number ∷ by) (t ∷ ts) rest
     one_step t ts s g f w fit by rest red =
         let over = law.left_over r m members vectors t ts s g f w in

@@ -1,10 +1,10 @@
 -- The reports of plans that stop, and of plans that end.
-use Rattle.std.proofs.Common.{◌≡◌, ◌∙◌, ◌+◌, ℕ, List, [], ◌∷◌, ◌++◌, length, Option, Some, None, true, false, Result, Ok, Err, refl, sym, ap, ap₂, subst}
+use Rattle.std.proofs.Common.{◌≡◌, ◌∙◌, ◌+◌, ℕ, List, [], ◌++◌, length, Option, Some, None, true, false, Result, Ok, Err, refl, sym, ap, ap₂, subst}
 use Rattle.std.specs.Prelude.{IfOk, IsSome}
 use Rattle.fm_algebra.specs.Matrix.{listed}
 use Rattle.fm_limit.specs.ResolvedIdeal.{rank}
 use Rattle.fm_poly.specs.declared.ring.Ring.{Ring}
-use Rattle.fm_run.specs.Runs.{next_of, ready, ◌>>=◌}
+use Rattle.fm_run.specs.Runs.{FollowsBy, next_of, ready, ◌>>=◌}
 use Rattle.fm_run.specs.declared.task.Stopped.{Stopped}
 use Rattle.fm_run.specs.declared.task.Side.TheVariants.{Alone}
 use Rattle.fm_cert.specs.Kinds as kinds
@@ -19,7 +19,7 @@ use Rattle.fm_plan.specs.Following.{FollowsPlan, unanswered_by}
 use Rattle.fm_plan.specs.Queries.{Found, found_resolution, plan}
 use Rattle.fm_plan.specs.Results.{differentials_of}
 use Rattle.fm_plan.specs.Tasks.{Plan, Unanswered}
-use Rattle.fm_answers.specs.Answers.{block_of, ended_report, ideal_at, query_report}
+use Rattle.fm_answers.specs.Answers.{block_of, ended_report, found_report, ideal_at, query_report}
 use Rattle.fm_answers.specs.Printed.{resolution_namings}
 use Rattle.fm_resolve.specs.Resolutions.{ResolutionValue, resolution_value}
 use Rattle.fm_decide.specs.declared.ended.Answer.{Answer}
@@ -39,18 +39,22 @@ module _ (q : Problem) (z : Query) (units left : ℕ) where
       by (Some u) is some h = value q z u is ∙ sym (ap (λ d. ended_report q z (next_of f d.end d.left).end) h)
       by None is some h = absurd (let f : false ≡ true = some in cc)
 
-  -- a plan that stops
-  pub whole_stopped : {X E : Type 0} (run : Plan (Found q.ring)) (view : X → Found q.ring) (stop : Stopped) (result : Result Answer E)
-      → FollowsPlan view (Err stop) units left (run units)
-      → IfOk result (λ a. (q : Problem) (z : Query) (u : Unanswered) → unanswered_by stop ≡ Some u → answer_report q z a ≡ ended_report q z (Err u))
-      → IfOk result (λ a. IsSome (unanswered_by stop)) → IfOk result (λ a. answer_report q z a ≡ ended_report q z (run units).end)
-  whole_stopped run view stop (Err e) follows value halts = tt
-  whole_stopped run view stop (Ok a) follows value halts = by (unanswered_by stop) refl halts follows
+  -- a plan that ends without an answer
+  pub whole_stopped : {X E S : Type 0} (run : Plan (Found q.ring)) (view : X → Found q.ring) (told : S → Option Unanswered) (stop : S) (result : Result Answer E)
+      → FollowsBy units left (run units) view told (Err stop) → IfOk result (λ a. (q : Problem) (z : Query) (u : Unanswered) → told stop ≡ Some u → answer_report q z a ≡ ended_report q z (Err u))
+      → IfOk result (λ a. IsSome (told stop)) → IfOk result (λ a. answer_report q z a ≡ ended_report q z (run units).end)
+  whole_stopped run view told stop (Err e) follows value halts = tt
+  whole_stopped run view told stop (Ok a) follows value halts = by (told stop) refl halts follows
     where
-      by : (o : Option Unanswered) → unanswered_by stop ≡ o → IsSome o → Rattle.fm_run.specs.Runs.Halts units left (run units) o
+      by : (o : Option Unanswered) → told stop ≡ o → IsSome o → Rattle.fm_run.specs.Runs.Halts units left (run units) o
           → answer_report q z a ≡ ended_report q z (run units).end
       by (Some u) is some h = value q z u is ∙ sym (ap (λ d. ended_report q z d.end) h)
       by None is some h = absurd (let f : false ≡ true = some in cc)
+
+  -- a plan that comes to its end
+  pub whole_answered : (run : Plan (Found q.ring)) (x : Found q.ring) (b : QueryReport) → b ≡ found_report q z x
+      → run units ≡ record { end = Ok x; left = left } → b ≡ ended_report q z (run units).end
+  whole_answered run x b same h = same ∙ sym (ap (λ d. ended_report q z d.end) h)
 
 module _ (q : Problem) (i k units left : ℕ) where
   abbrev asked : Query

@@ -1,5 +1,5 @@
 -- The names of the matrices of Ext.
-use Rattle.std.proofs.Common.{◌≡◌, ◌∙◌, List, [], ◌∷◌, ◌++◌, Result, Ok, Err, map, refl, sym, ap, ap₂, subst}
+use Rattle.std.proofs.Common.{◌≡◌, ◌∙◌, List, [], ◌∷◌, ◌++◌, Result, Ok, Err, map, refl, ap, ap₂, subst}
 use Rattle.std.specs.Prelude.{OnOk}
 use Rattle.fm_poly.specs.declared.ring.Ring.{Ring}
 use Rattle.fm_mat.specs.Matrices.{MatrixValue, matrix_meaning}

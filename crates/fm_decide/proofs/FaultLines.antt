@@ -13,10 +13,10 @@ use Rattle.fm_report.specs.Holding.{VerdictsHold}
 use Rattle.fm_report.proofs.Silent.{message_holds}
 
 -- no byte is LF
-abbrev is_one_line : Bytes → Bool
+abbrev pub is_one_line : Bytes → Bool
 is_one_line bs = list_all (λ b. not (nat_eq b 10)) bs
 
-one_line_append : (xs ys : Bytes) → is_one_line xs ≡ true → is_one_line ys ≡ true → is_one_line (xs ++ ys) ≡ true
+pub one_line_append : (xs ys : Bytes) → is_one_line xs ≡ true → is_one_line ys ≡ true → is_one_line (xs ++ ys) ≡ true
 one_line_append [] ys h k = k
 one_line_append (x ∷ xs) ys h k = and_from _ _ (and_parts _ _ h).0 (one_line_append xs ys (and_parts _ _ h).1 k)
 
@@ -39,7 +39,7 @@ digits_one_line (suc k) n acc h = by_test (n / 10 == 0) (digits_one_line k (n / 
     by_test true rest = more
     by_test false rest = rest
 
-decimal_one_line : (n : ℕ) → is_one_line (decimal n) ≡ true
+pub decimal_one_line : (n : ℕ) → is_one_line (decimal n) ≡ true
 unfolding digits
 decimal_one_line n = digits_one_line 64 n [] refl
 

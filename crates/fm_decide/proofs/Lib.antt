@@ -8,7 +8,7 @@ pub mod Loops
 pub mod Whole
 pub mod FaultLines
 pub mod ExtNames
-pub mod Plans
-pub mod ClassBlocks
-pub mod Reported
+pub mod BaseNames
+pub mod BaseReports
 pub mod ExtReports
+pub mod CountsLeft

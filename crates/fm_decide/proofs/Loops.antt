@@ -1,12 +1,8 @@
 -- The blocks that are written, one query after another.
-use Rattle.std.proofs.Common.{◌≡◌, ◌≢◌, ◌≤◌, ◌+◌, ℕ, suc, Bool, true, false, ◌&&◌, List, [], ◌∷◌, ◌++◌, All, length, refl, sym, ap, ap₂, subst, ◌∙◌, append_assoc, append-nil, arith}
+use Rattle.std.proofs.Common.{◌≡◌, ◌≤◌, ◌+◌, ℕ, suc, Bool, true, false, not, ◌&&◌, List, ◌∷◌, ◌++◌, All, length, refl, sym, ap, ap₂, subst, ◌∙◌, append_assoc, append-nil, arith}
 use Rattle.std.proofs.lemmas.List.{nil_from_length}
-use Rattle.std.proofs.lemmas.List.Elements.{All-head, All-tail}
-use Rattle.fm_poly.specs.Polys.{PolyValue}
+use Rattle.std.proofs.lemmas.List.Elements.{All-tail}
 use Rattle.fm_poly.specs.declared.ring.Ring.{Ring}
-use Rattle.fm_poly.specs.declared.term.Term.{Term}
-use Rattle.fm_term.specs.declared.vterm.VTerm.{VTerm}
-use Rattle.fm_vec.specs.Components.{column_terms, placed}
 use Rattle.fm_words.specs.Parts.{Bytes}
 use Rattle.fm_problem.specs.declared.problem.Problem.{Problem}
 use Rattle.fm_problem.specs.declared.query.Query.{Query}
@@ -17,24 +13,22 @@ use Rattle.fm_cert.specs.Lines.{lines_text}
 use Rattle.fm_cert.specs.Said.{IsQueryOver}
 use Rattle.fm_cert.proofs.LinesWritten.{no_lines, over_variables, text_append}
 use Rattle.fm_report.specs.Reports.{QueryReport, block_lines, query_lines}
-use Rattle.fm_report.specs.Sheets.{is_answer}
-use Rattle.fm_answers.specs.Answers.{are_answered}
-use Rattle.fm_decide.specs.Answers.{query_answer, answers}
+use Rattle.fm_answers.specs.Answers.{are_answered, is_unanswered, query_report, query_reports}
 use Rattle.fm_decide.specs.declared.ended.Answer.{Answer}
 use Rattle.fm_decide.specs.Given.{answer_report}
 
 module _ (units : ℕ) (q : Problem) where
   abbrev Shown : Bytes → ℕ → List Query → Bytes
-  Shown now number left = now ++ lines_text q.vars (query_lines q (number + 1) (answers units q left))
+  Shown now number left = now ++ lines_text q.vars (query_lines q (number + 1) (query_reports units q left))
 
   -- one more query is written
-  query_written : (z : Query) (rest left : List Query) (b : QueryReport) (number : ℕ) (old new whole : Bytes) → answers units q left ≡ b ∷ answers units q rest
+  query_written : (z : Query) (rest left : List Query) (b : QueryReport) (number : ℕ) (old new whole : Bytes) → query_reports units q left ≡ b ∷ query_reports units q rest
       → new ≡ old ++ lines_text q.vars (block_lines q (number + 1) b) → Shown old number left ≡ whole → Shown new (number + 1) rest ≡ whole
   query_written z rest left b number old new whole e n h =
       let after : number + 1 + 1 ≡ suc (number + 1) = omega arith in
-      ap₂ (λ x k. x ++ lines_text q.vars (query_lines q k (answers units q rest))) n after
-      ∙ append_assoc old (lines_text q.vars (block_lines q (number + 1) b)) (lines_text q.vars (query_lines q (suc (number + 1)) (answers units q rest)))
-      ∙ ap (λ l. old ++ l) (sym (text_append q.vars (block_lines q (number + 1) b) (query_lines q (suc (number + 1)) (answers units q rest))))
+      ap₂ (λ x k. x ++ lines_text q.vars (query_lines q k (query_reports units q rest))) n after
+      ∙ append_assoc old (lines_text q.vars (block_lines q (number + 1) b)) (lines_text q.vars (query_lines q (suc (number + 1)) (query_reports units q rest)))
+      ∙ ap (λ l. old ++ l) (sym (text_append q.vars (block_lines q (number + 1) b) (query_lines q (suc (number + 1)) (query_reports units q rest))))
       ∙ ap (λ bs. old ++ lines_text q.vars (query_lines q (number + 1) bs)) (sym e) ∙ h
 
   regroup : (a b c : Bool) → ((a && b) && c) ≡ (a && (b && c))
@@ -43,22 +37,22 @@ module _ (units : ℕ) (q : Problem) where
 
   abbrev pub IsLeft : Bytes → Bool → ℕ → Bytes → Bool → List Query → Type 0
   IsLeft now all number whole total left =
-      (Shown now number left ≡ whole) × ((all && are_answered (answers units q left)) ≡ total) × All (IsQueryOf q) left × All (λ z. is_built q.ideals z ≡ true) left × (number + length left ≤ length q.queries)
+      (Shown now number left ≡ whole) × ((all && are_answered (query_reports units q left)) ≡ total) × All (IsQueryOf q) left × All (λ z. is_built z ≡ true) left × (number + length left ≤ length q.queries)
 
   -- a query is answered
   pub answered : (z : Query) (rest left : List Query) (a : Answer) (number : ℕ) (old new whole : Bytes) (all done new_all total : Bool)
-      → left ≡ z ∷ rest → answer_report q z a ≡ query_answer units q z
-      → new ≡ old ++ lines_text q.vars (block_lines q (number + 1) (answer_report q z a)) → done ≡ is_answer (answer_report q z a).kind
+      → left ≡ z ∷ rest → answer_report q z a ≡ query_report units q z
+      → new ≡ old ++ lines_text q.vars (block_lines q (number + 1) (answer_report q z a)) → done ≡ not (is_unanswered (answer_report q z a).kind)
       → new_all ≡ (all && done) → IsLeft old all number whole total left → IsLeft new new_all (number + 1) whole total rest
   answered z rest left a number old new whole all done new_all total e g n d na h =
       let b : QueryReport = answer_report q z a in
-      let cut : answers units q left ≡ b ∷ answers units q rest = ap (answers units q) e ∙ ap (λ b. b ∷ answers units q rest) (sym g) in
+      let cut : query_reports units q left ≡ b ∷ query_reports units q rest = ap (query_reports units q) e ∙ ap (λ b. b ∷ query_reports units q rest) (sym g) in
       let count : number + length (z ∷ rest) ≤ length q.queries = subst (λ l. number + length l ≤ length q.queries) e h.4 in (
         query_written z rest left b number old new whole cut n h.0,
-        ap (λ x. x && are_answered (answers units q rest)) (na ∙ ap (λ x. all && x) d) ∙ regroup all (is_answer b.kind) (are_answered (answers units q rest))
+        ap (λ x. x && are_answered (query_reports units q rest)) (na ∙ ap (λ x. all && x) d) ∙ regroup all (not (is_unanswered b.kind)) (are_answered (query_reports units q rest))
             ∙ ap (λ bs. all && are_answered bs) (sym cut) ∙ h.1,
         All-tail (IsQueryOf q) z rest (subst (All (IsQueryOf q)) e h.2),
-        All-tail (λ x. is_built q.ideals x ≡ true) z rest (subst (All (λ x. is_built q.ideals x ≡ true)) e h.3),
+        All-tail (λ x. is_built x ≡ true) z rest (subst (All (λ x. is_built x ≡ true)) e h.3),
         omega (arith, count),
       )
 
@@ -66,7 +60,7 @@ module _ (units : ℕ) (q : Problem) where
   pub finished : (left : List Query) (number : ℕ) (now whole : Bytes) → length left ≡ 0 → Shown now number left ≡ whole → now ≡ whole
   finished left number now whole e h =
       sym (append-nil now) ∙ ap (λ y. now ++ y) (sym (no_lines q.vars))
-      ∙ ap (λ l. now ++ lines_text q.vars (query_lines q (number + 1) (answers units q l))) (sym (nil_from_length left e)) ∙ h
+      ∙ ap (λ l. now ++ lines_text q.vars (query_lines q (number + 1) (query_reports units q l))) (sym (nil_from_length left e)) ∙ h
 
 pub and_true : (a b : Bool) → a ≡ true → b ≡ (a && b)
 and_true a b e = ap (λ x. x && b) (sym e)
@@ -87,12 +81,3 @@ query_over q (queries.TheVariants.Map i k j) of = tt
 query_over q (queries.TheVariants.Member k f) of = ap (λ (x : Ring). x.vars) (sym of.1.of_ring)
 query_over q (queries.TheVariants.Resolution i k) of = tt
 query_over q (queries.TheVariants.ExtOf i k) of = tt
-
--- one polynomial that isn't zero makes a column that isn't
-placed_some : (ts : List Term) (more : List VTerm) → ts ≢ [] → placed 1 ts ++ more ≢ []
-placed_some [] more h e = h refl
-placed_some (t ∷ ts) more h e = cc
-
-pub nonzero_column : (fs : List PolyValue) → length fs ≡ 1 → All (λ f. f.terms ≢ []) fs → column_terms 1 fs ≢ []
-nonzero_column [] e all h = absurd (omega (arith, e))
-nonzero_column (f ∷ fs) e all h = placed_some f.terms (column_terms 2 fs) (All-head (λ (f : PolyValue). f.terms ≢ []) f fs all) h

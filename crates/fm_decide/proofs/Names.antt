@@ -1,6 +1,5 @@
 -- Matrices that are named one after another.
-use Rattle.std.proofs.Common.{◌≡◌, ◌∙◌, ℕ, suc, ◌+◌, List, [], ◌∷◌, ◌++◌, All, map, length, Vec, refl, sym, ap, ap₂, subst, append_assoc, append-nil, arith}
-use Rattle.std.specs.Global.{Global}
+use Rattle.std.proofs.Common.{◌≡◌, ◌∙◌, ℕ, suc, ◌+◌, List, [], ◌∷◌, ◌++◌, map, length, refl, sym, ap, ap₂, subst, append_assoc, append-nil, arith}
 use Rattle.std.proofs.lemmas.List.{map-append, nil_from_length}
 use Rattle.fm_poly.specs.declared.ring.Ring.{Ring}
 use Rattle.fm_lift.specs.Lifts.{AreMatricesOver}

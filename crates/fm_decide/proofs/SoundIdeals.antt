@@ -1,5 +1,5 @@
 -- The ideals of a problem are of its ring, and have few generators.
-use Rattle.std.proofs.Common.{◌≡◌, ◌<◌, ℕ, zero, suc, List, [], ◌∷◌, All, length, get_or, slice_get, Some, refl, sym, ap, subst, arith}
+use Rattle.std.proofs.Common.{List, [], ◌∷◌, All}
 use Rattle.std.proofs.lemmas.List.Elements.{All-head, All-tail}
 use Rattle.fm_poly.specs.Polys.{PolyValue}
 use Rattle.fm_poly.specs.declared.ring.Ring.{Ring}

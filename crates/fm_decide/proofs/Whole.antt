@@ -7,7 +7,7 @@ use Rattle.fm_cert.specs.Lines.{Line, Question, Row, line_text, lines_text}
 use Rattle.fm_cert.specs.Questions.{head_lines, question_line}
 use Rattle.fm_cert.proofs.LinesWritten.{line_first, no_lines, text_append}
 use Rattle.fm_report.specs.Reports.{QueryReport, block_lines, query_lines, report_text}
-use Rattle.fm_decide.specs.Answers.{answers, report_bytes}
+use Rattle.fm_answers.specs.Answers.{query_reports, report_bytes}
 use Rattle.std.proofs.Common.{append-nil}
 
 -- one line
@@ -15,12 +15,12 @@ one_line : (names : List Bytes) (l : Line) → lines_text names (l ∷ []) ≡ l
 one_line names l = line_first names l [] ∙ ap (λ y. (line_text names l ++ 10 ∷ []) ++ y) (no_lines names) ∙ append-nil (line_text names l ++ 10 ∷ [])
 
 pub report_written : (units : ℕ) (q : Problem) (s0 s1 s2 s3 : Bytes) → s0 ≡ [] → s1 ≡ s0 ++ lines_text q.vars (head_lines q)
-    → s2 ≡ s1 ++ lines_text q.vars (query_lines q 1 (answers units q q.queries))
+    → s2 ≡ s1 ++ lines_text q.vars (query_lines q 1 (query_reports units q q.queries))
     → s3 ≡ s2 ++ (line_text q.vars (Row kinds.EndReport tt) ++ 10 ∷ []) → s3 ≡ report_bytes units q
 unfolding report_bytes report_text
 report_written units q s0 s1 s2 s3 e0 e1 e2 e3 =
     let head = lines_text q.vars (head_lines q) in
-    let blocks = query_lines q 1 (answers units q q.queries) in
+    let blocks = query_lines q 1 (query_reports units q q.queries) in
     let last : Line = Row kinds.EndReport tt in
     e3 ∙ ap (λ y. y ++ (line_text q.vars last ++ 10 ∷ [])) (e2 ∙ ap (λ y. y ++ lines_text q.vars blocks) (e1 ∙ ap (λ y. y ++ head) e0))
     ∙ ap (λ y. (head ++ lines_text q.vars blocks) ++ y) (sym (one_line q.vars last))

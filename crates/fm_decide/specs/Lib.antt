@@ -1,3 +1,3 @@
 pub mod Given
-pub mod Answers
 pub mod Series
+pub mod Counts

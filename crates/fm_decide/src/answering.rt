@@ -1,22 +1,24 @@
 // The report of a problem.
-ghost use Rattle.std.specs.Prelude.{IfOk, OnOk, true, ◌++◌, ◌<◌, ◌^◌, ◌≡◌};
+ghost use Rattle.std.specs.Prelude.{IfOk, OnOk, not, true, ◌++◌, ◌<◌, ◌^◌, ◌≡◌};
 ghost use Rattle.fm_cert.specs.Ends.{end_kind};
 ghost use Rattle.fm_cert.specs.Lines.{lines_text};
 ghost use Rattle.fm_cert.specs.Said.{IsQueryOver};
-ghost use Rattle.fm_answers.specs.Answers.{are_answered};
-ghost use Rattle.fm_decide.specs.Answers.{answers, query_answer, report_bytes};
+ghost use Rattle.fm_answers.specs.Answers.{are_answered, is_unanswered, query_report, query_reports, report_bytes};
 ghost use Rattle.fm_problem.specs.Problems.{is_built};
 ghost use Rattle.fm_decide.specs.Given.{IsAnswerOver, answer_report};
 ghost use Rattle.fm_problem.specs.Sound.{IsProblem, IsQueryOf};
 ghost use Rattle.fm_report.specs.Reports.{block_lines, query_lines};
-ghost use Rattle.fm_report.specs.Sheets.{is_answer as answers_query};
 
 use crate::Answers;
 use crate::class::answer_class;
 use crate::ended::Answer;
 use crate::ext::answer_ext;
+use crate::invert::answer_invert;
 use crate::member::answer_member;
 use crate::resolution::answer_resolution;
+use crate::root::answer_root;
+use crate::support::answer_support;
+use crate::zero::answer_zero;
 use fm_cert::{End, Line, push_head, push_lines, push_query};
 use fm_problem::{Problem, Query};
 use std::alloc::{AllocError, Global};
@@ -25,7 +27,7 @@ use std::alloc::{AllocError, Global};
 pub fn answer(alloc: Global, problem: &Problem, units: u32) -> Result<Answers, AllocError>
     requires { IsProblem problem.now }
     ensures report { IfOk result (λ a. a.report.items ≡ report_bytes units problem.now) }
-    ensures all { IfOk result (λ a. a.all ≡ are_answered (answers units problem.now problem.now.queries)) }
+    ensures all { IfOk result (λ a. a.all ≡ are_answered (query_reports units problem.now problem.now.queries)) }
 {
     let mut report = Vec::new(alloc);
     push_head(problem, &mut report)?;
@@ -34,7 +36,7 @@ pub fn answer(alloc: Global, problem: &Problem, units: u32) -> Result<Answers, A
     Ok(Answers { all, report })
 }
 
-// Whether each query is answered.
+// Whether each query is answered or refused.
 fn push_queries(
     alloc: Global,
     problem: &Problem,
@@ -42,9 +44,9 @@ fn push_queries(
     out: &mut Vec<u8>,
 ) -> Result<bool, AllocError>
     requires { IsProblem problem.now }
-    ensures all { IfOk result (λ all. all ≡ are_answered (answers units problem.now problem.now.queries)) }
+    ensures all { IfOk result (λ all. all ≡ are_answered (query_reports units problem.now problem.now.queries)) }
     ensures text { OnOk result (out.new.items
-        ≡ out.old.items ++ lines_text problem.now.vars (query_lines problem.now 1 (answers units problem.now problem.now.queries))) }
+        ≡ out.old.items ++ lines_text problem.now.vars (query_lines problem.now 1 (query_reports units problem.now problem.now.queries))) }
 {
     let mut all = true;
     let mut number = 0;
@@ -57,13 +59,13 @@ fn push_queries(
         let answer = answer_query(alloc, problem, units, query)?;
         number += 1;
         push_block(problem, number, query, &answer, out)?;
-        let answered = is_answer(&answer.end);
+        let answered = is_settled(&answer.end);
         all = all && answered;
     }
 }
 
-// The answer to a query, with this number of units for its plan.
-fn answer_query(
+/// The answer to a query, with this number of units for its plan.
+pub(crate) fn answer_query(
     alloc: Global,
     problem: &Problem,
     units: u32,
@@ -71,22 +73,23 @@ fn answer_query(
 ) -> Result<Answer, AllocError>
     requires problem { IsProblem problem.now }
     requires query { IsQueryOf problem.now query.now }
-    requires built { is_built problem.now.ideals query.now ≡ true }
-    ensures value { IfOk result (λ a. answer_report problem.now query.now a ≡ query_answer units problem.now query.now) }
+    requires built { is_built query.now ≡ true }
+    ensures value { IfOk result (λ a. answer_report problem.now query.now a ≡ query_report units problem.now query.now) }
     ensures over { IfOk result (IsAnswerOver problem.now.ring.vars) }
 {
     match query {
+        Query::Zero { i, ideal } => answer_zero(alloc, problem, units, *i, *ideal),
+        Query::Root { i, ideal } => answer_root(alloc, problem, units, *i, *ideal),
+        Query::Invert { i, ideal, f } => answer_invert(alloc, problem, units, *i, *ideal, f),
+        Query::Support { i, ideal } => answer_support(alloc, problem, units, *i, *ideal),
         Query::Resolution { i, ideal } => answer_resolution(alloc, problem, units, *i, *ideal),
         Query::Class { i, ideal, e, z } => {
             answer_class(alloc, problem, units, *i, *ideal, *e, z.as_slice())
         }
         Query::ExtOf { i, ideal } => answer_ext(alloc, problem, units, *i, *ideal),
         Query::Member { ideal, f } => answer_member(alloc, problem, units, *ideal, f),
-        Query::Zero { .. }
-        | Query::Root { .. }
-        | Query::Invert { .. }
-        | Query::Support { .. }
-        | Query::Map { .. } => Err(AllocError),
+        // The reader refuses this kind, so that a problem holds none.
+        Query::Map { .. } => Err(AllocError),
     }
 }
 
@@ -111,8 +114,9 @@ fn push_block<'x>(
     Ok(())
 }
 
-fn is_answer(end: &End) -> bool
-    ensures { result ≡ answers_query (end_kind end.now) }
+// Whether the plan came to its end, by an answer or a refusal.
+fn is_settled(end: &End) -> bool
+    ensures { result ≡ not (is_unanswered (end_kind end.now)) }
 {
     match end {
         End::Zero { .. }
@@ -123,11 +127,10 @@ fn is_answer(end: &End) -> bool
         | End::Ranks { .. }
         | End::ExtOf { .. }
         | End::Map { .. }
-        | End::Member { .. } => true,
-        End::Budget { .. }
-        | End::Exponents { .. }
+        | End::Member { .. }
         | End::WrongLength { .. }
         | End::NotCocycle { .. }
-        | End::NotContained { .. } => false,
+        | End::NotContained { .. } => true,
+        End::Budget { .. } | End::Exponents { .. } => false,
     }
 }

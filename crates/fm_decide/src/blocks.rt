@@ -1,24 +1,26 @@
 // The lines under an answer: the matrices of one ideal in one degree.
 ghost use Rattle.std.specs.Prelude.{IfOk, OnOk, [], length, map, ◌++◌, ◌+◌, ◌<◌, ◌^◌, ◌∷◌, ◌≡◌};
 ghost use Rattle.fm_answers.specs.Answers.{block_of, datum_line};
-ghost use Rattle.fm_answers.specs.Printed.{ext_namings, grids_of, resolution_namings};
-ghost use Rattle.fm_cert.specs.Naming.{differentials, forms_after, naming_lines};
+ghost use Rattle.fm_answers.specs.Printed.{base_namings, ext_namings, grids_of, resolution_namings};
+ghost use Rattle.fm_cert.specs.Naming.{differentials, forms_after, kernels, naming_lines};
 ghost use Rattle.fm_cert.specs.Parts.{AreNamingsOver, naming_values};
 ghost use Rattle.fm_cert.specs.Said.{AreLinesOver, line_values};
 ghost use Rattle.fm_ext.specs.Exts.{ext_meaning, ring_of};
 ghost use Rattle.fm_lift.specs.Lifts.{AreMatricesOver};
 ghost use Rattle.fm_mat.specs.Matrices.{matrix_meaning};
 ghost use Rattle.fm_problem.specs.Sound.{IsProblem};
+ghost use Rattle.fm_queries.specs.Bases.{base_meaning};
 ghost use Rattle.fm_resolve.specs.Resolutions.{resolution_value};
-ghost use Rattle.fm_syz.specs.GeneratorValues.{GeneratorsValue};
+ghost use Rattle.fm_syz.specs.GeneratorValues.{GeneratorsValue, PreimageValue};
 
 use crate::series::{Series, push_matrix, push_series};
 use fm_cert::{Forms, Line, Naming, Slot};
 use fm_ext::Ext;
 use fm_poly::Ring;
 use fm_problem::Problem;
+use fm_queries::Base;
 use fm_resolve::Resolution;
-use fm_syz::Generators;
+use fm_syz::{Generators, Preimage};
 use std::alloc::{AllocError, Global};
 
 /// Appends the names of d_1, d_2, ..
@@ -28,7 +30,6 @@ pub(crate) fn push_resolution(
     namings: &mut Vec<Naming>,
 ) -> Result<(), AllocError>
     requires before { AreNamingsOver x.now.first.matrix.ring.vars namings.old.items }
-    requires room { length x.now.next < 256 }
     ensures value { let r = x.now.first.matrix.ring in OnOk result
         (naming_values namings.new.items ≡ naming_values namings.old.items ++ resolution_namings r (resolution_value r x.now)) }
     ensures over { OnOk result (AreNamingsOver x.now.first.matrix.ring.vars namings.new.items) }
@@ -68,7 +69,6 @@ fn push_generators(
 /// Appends the names of d_1, d_2, ..; theta_0, theta_1, ..; Z, N and U.
 pub(crate) fn push_ext(alloc: Global, x: &Ext, namings: &mut Vec<Naming>) -> Result<(), AllocError>
     requires before { AreNamingsOver (ring_of x.now).vars namings.old.items }
-    requires room { length x.now.resolution.next < 256 }
     ensures value { let r = ring_of x.now in OnOk result
         (naming_values namings.new.items ≡ naming_values namings.old.items ++ ext_namings r (ext_meaning r x.now)) }
     ensures over { OnOk result (AreNamingsOver (ring_of x.now).vars namings.new.items) }
@@ -93,6 +93,50 @@ pub(crate) fn push_ext(alloc: Global, x: &Ext, namings: &mut Vec<Naming>) -> Res
         namings,
     )?;
     push_matrix(alloc, Slot::U, ring, x.u(), namings)
+}
+
+/// Appends the names of the matrices of Ext, and of K_1, K_2, ..
+pub(crate) fn push_base(
+    alloc: Global,
+    x: &Base,
+    namings: &mut Vec<Naming>,
+) -> Result<(), AllocError>
+    requires before { AreNamingsOver (ring_of x.now.ext).vars namings.old.items }
+    ensures value { let r = ring_of x.now.ext in OnOk result
+        (naming_values namings.new.items ≡ naming_values namings.old.items ++ base_namings r (base_meaning r x.now)) }
+    ensures over { OnOk result (AreNamingsOver (ring_of x.now.ext).vars namings.new.items) }
+{
+    let ring = x.ring();
+    push_ext(alloc, x.ext(), namings)?;
+    push_kernels(alloc, 1, ring, x.chain().links(), namings)
+}
+
+// Appends the names of members of a chain of kernels, the first with this number.
+fn push_kernels(
+    alloc: Global,
+    first: u64,
+    ring: Ring,
+    links: &[Preimage],
+    namings: &mut Vec<Naming>,
+) -> Result<(), AllocError>
+    requires ring { AreMatricesOver ring (map (λ (x : PreimageValue). x.generators.graph.matrix) links.now) }
+    requires before { AreNamingsOver ring.vars namings.old.items }
+    requires room { first + length links.now < 2 ^ 64 }
+    ensures value { OnOk result (naming_values namings.new.items ≡ naming_values namings.old.items
+        ++ kernels first (grids_of ring (map (matrix_meaning ring) (map (λ (x : PreimageValue). x.generators.graph.matrix) links.now)))) }
+    ensures over { OnOk result (AreNamingsOver ring.vars namings.new.items) }
+{
+    let mut number = first;
+    let mut left = links;
+    'links: loop {
+        let Some((x, later)) = left.split_first() else {
+            return Ok(());
+        };
+        let found = x.generators().found();
+        push_matrix(alloc, Slot::K { s: number }, ring, found, namings)?;
+        number += 1;
+        left = later;
+    }
 }
 
 /// `datum NAME DEGREE` for the ideal with this number, and the lines that name these matrices after it.
@@ -140,4 +184,24 @@ pub(crate) fn one_block(
     let mut lines = Vec::new(alloc);
     push_block(alloc, problem, ideal, i, namings, &mut forms, &mut lines)?;
     Ok(lines)
+}
+
+/// The lines under an answer on the limit: the matrices of Ext and its chain of kernels.
+pub(crate) fn base_lines(
+    alloc: Global,
+    problem: &Problem,
+    ideal: u32,
+    i: u8,
+    base: &Base,
+) -> Result<Vec<Line>, AllocError>
+    requires problem { IsProblem problem.now }
+    requires ideal { ideal < length problem.now.ideals }
+    requires ring { ring_of base.now.ext ≡ problem.now.ring }
+    ensures value { let r = problem.now.ring in IfOk result (λ lines. line_values problem.now lines.items
+        ≡ block_of problem.now ideal i (base_namings r (base_meaning r base.now))) }
+    ensures over { IfOk result (λ lines. AreLinesOver problem.now.ring.vars lines.items) }
+{
+    let mut namings = Vec::new(alloc);
+    push_base(alloc, base, &mut namings)?;
+    one_block(alloc, problem, ideal, i, namings)
 }

@@ -1,14 +1,20 @@
 // Answers to queries.
 ghost use Rattle.std.specs.Prelude.{IfOk, IsSome, Result, Some, ◌≡◌, ℕ};
-ghost use Rattle.fm_answers.specs.Answers.{ended_report};
+ghost use Rattle.fm_answers.specs.Answers.{ended_report, refused_report};
 ghost use Rattle.fm_decide.specs.Given.{IsAnswerOver, answer_report};
 ghost use Rattle.fm_plan.specs.Following.{unanswered_by};
+ghost use Rattle.fm_plan.specs.Queries.{is_yes};
 ghost use Rattle.fm_plan.specs.Tasks.{Unanswered};
+ghost use Rattle.fm_poly.specs.declared.ring.Ring.{Ring};
 ghost use Rattle.fm_problem.specs.declared.problem.Problem.{Problem};
 ghost use Rattle.fm_problem.specs.declared.query.Query.{Query};
+ghost use Rattle.fm_queries.specs.Founds.{ended_by, refusal_value};
+ghost use Rattle.fm_syz.specs.Insides.{inside_value};
 
 use fm_cert::{End, Line};
+use fm_queries::{Refusal, Unanswered as Ended};
 use fm_run::{Stop, Stopped};
+use fm_syz::Inside;
 use std::alloc::{AllocError, Global};
 
 /// How a query ends, and the lines that stand under its answer.
@@ -37,5 +43,56 @@ pub(crate) fn stopped_answer(alloc: Global, stopped: Stopped) -> Result<Answer, 
             lines,
         }),
         Stop::Memory => Err(AllocError),
+    }
+}
+
+/// The answer to a query whose plan stopped in a task, or that it refuses; none for want of memory.
+pub(crate) fn unanswered_answer(alloc: Global, ended: Ended) -> Result<Answer, AllocError>
+    ensures value { IfOk result (λ a. (q : Problem) (z : Query) (u : Unanswered) → ended_by ended ≡ Some u
+        → answer_report q z a ≡ ended_report q z (Result.Err u)) }
+    ensures over { (n : ℕ) → IfOk result (IsAnswerOver n) }
+    ensures halts { IfOk result (λ a. IsSome (ended_by ended)) }
+{
+    match ended {
+        Ended::Stopped(stopped) => stopped_answer(alloc, stopped),
+        Ended::Refused(refusal) => Ok(refused_answer(alloc, refusal)),
+    }
+}
+
+fn refused_answer(alloc: Global, refusal: Refusal) -> Answer
+    ensures value { (q : Problem) (z : Query) → answer_report q z result ≡ refused_report z (refusal_value refusal) }
+    ensures over { (n : ℕ) → IsAnswerOver n result }
+{
+    let lines = Vec::new(alloc);
+    match refusal {
+        Refusal::WrongLength { found, needed } => Answer {
+            end: End::WrongLength {
+                found: u64::from(found),
+                needed: u64::from(needed),
+            },
+            lines,
+        },
+        Refusal::NotCocycle { component } => Answer {
+            end: End::NotCocycle {
+                component: u64::from(component),
+            },
+            lines,
+        },
+        Refusal::NotContained { generator } => Answer {
+            end: End::NotContained {
+                generator: u64::from(generator),
+            },
+            lines,
+        },
+    }
+}
+
+/// Whether all columns lie in an image.
+pub(crate) fn is_inside(inside: &Inside) -> bool
+    ensures { (r : Ring) → is_yes r (inside_value r inside.now) ≡ result }
+{
+    match inside {
+        Inside::All(_) => true,
+        Inside::First(_) => false,
     }
 }

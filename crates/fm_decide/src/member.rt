@@ -2,13 +2,10 @@
 ghost use Rattle.std.specs.Prelude.{IfOk, ◌≡◌};
 ghost use Rattle.fm_answers.specs.Answers.{query_report};
 ghost use Rattle.fm_decide.specs.Given.{IsAnswerOver, answer_report};
-ghost use Rattle.fm_plan.specs.Queries.{is_yes};
-ghost use Rattle.fm_poly.specs.declared.ring.Ring.{Ring};
 ghost use Rattle.fm_problem.specs.Sound.{IsProblem, IsQueryOf};
 ghost use Rattle.fm_problem.specs.declared.query.Query.TheVariants as queries;
-ghost use Rattle.fm_syz.specs.Insides.{inside_value};
 
-use crate::ended::{Answer, stopped_answer};
+use crate::ended::{Answer, is_inside, stopped_answer};
 use crate::ideals::generators;
 use crate::series::push_matrix;
 use fm_cert::{End, Forms, Slot};
@@ -16,7 +13,6 @@ use fm_poly::Poly;
 use fm_problem::Problem;
 use fm_resolve::decide_member;
 use fm_run::Work;
-use fm_syz::Inside;
 use std::alloc::{AllocError, Global};
 
 /// The answer to the query whether f lies in the ideal with this number.
@@ -49,14 +45,5 @@ pub(crate) fn answer_member(
             })
         }
         Err(stopped) => stopped_answer(alloc, stopped),
-    }
-}
-
-fn is_inside(inside: &Inside) -> bool
-    ensures { (r : Ring) → is_yes r (inside_value r inside.now) ≡ result }
-{
-    match inside {
-        Inside::All(_) => true,
-        Inside::First(_) => false,
     }
 }

@@ -41,7 +41,7 @@ module _ (r : Ring) where
   graphs_from g [] = refl
   graphs_from g (x ∷ xs) = ap (λ gs. graph_meaning r x.graph ∷ gs) (graphs_from x.graph xs)
 
-  matrices_from : (g : GraphValue) (xs : List GeneratorsValue) → matrices_meaning r (map (λ (g : GraphValue). g.matrix) (map (λ (y : GeneratorsValue). y.graph) xs))
+  pub matrices_from : (g : GraphValue) (xs : List GeneratorsValue) → matrices_meaning r (map (λ (g : GraphValue). g.matrix) (map (λ (y : GeneratorsValue). y.graph) xs))
       ≡ map (λ (g : Graph r). g.matrix) (map (λ (y : Preimage r). y.graph) (generators_from r g xs))
   matrices_from g [] = refl
   matrices_from g (x ∷ xs) = ap (λ ms. matrix_meaning r x.graph.matrix ∷ ms) (matrices_from x.graph xs)

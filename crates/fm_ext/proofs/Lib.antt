@@ -1,3 +1,4 @@
 pub mod Differentials
 pub mod Morphisms
 pub mod InRow
+pub mod IdentityGraphs

@@ -4,10 +4,14 @@
 
 pub(crate) mod cocycles;
 pub mod exts;
+pub mod identities;
 pub(crate) mod lifting;
-pub(crate) mod morphism;
+pub mod morphism;
 pub mod presenting;
 pub(crate) mod relations;
 
 pub use exts::Ext;
+pub use identities::identity_along;
+pub use morphism::matrix_of;
 pub use presenting::ext;
+pub use relations::coboundaries;

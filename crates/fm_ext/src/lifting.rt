@@ -7,7 +7,7 @@ ghost use Rattle.fm_limit.specs.ResolvedIdeal.{IsFrobeniusLiftOf};
 ghost use Rattle.fm_plan.specs.Base.{lifting};
 ghost use Rattle.fm_plan.specs.Following.{FollowsPlan};
 ghost use Rattle.fm_plan.specs.Results as plans;
-ghost use Rattle.fm_resolve.specs.Resolutions.{IsResolution, resolution_value};
+ghost use Rattle.fm_resolve.specs.Resolutions.{IsResolution, graphs_of, resolution_value};
 
 use fm_lift::frobenius_lift;
 use fm_mat::Matrix;
@@ -45,12 +45,17 @@ pub(crate) fn lift_along(
     frobenius_lift(alloc, side, resolution.ring(), &graphs, work)
 }
 
-// The graphs of d_1 .. d_i.
-fn graphs(alloc: Global, resolution: &Resolution, degree: u8) -> Result<Vec<&Graph>, Stop>
+/// The graphs of d_1 .. d_i.
+pub(crate) fn graphs(
+    alloc: Global,
+    resolution: &Resolution,
+    degree: u8,
+) -> Result<Vec<&Graph>, Stop>
     requires { degree ≤ length resolution.now.next }
     ensures row { IfOk result (λ gs. AreInARow resolution.now.first.matrix.ring 1 (map (λ g. g.now) gs.items)) }
     ensures value { let r = resolution.now.first.matrix.ring in IfOk result (λ gs.
         graphs_meaning r (map (λ g. g.now) gs.items) ≡ take degree (plans.graphs_of r (resolution_value r resolution.now))) }
+    ensures taken { IfOk result (λ gs. map (λ g. g.now) gs.items ≡ take degree (graphs_of resolution.now)) }
     ensures memory { IfErr result (λ stop. stop ≡ Stop.Memory) }
     ensures resolution { IsResolution resolution.now }
 {

@@ -51,8 +51,8 @@ fn power(alloc: Global, z: &Graph) -> Result<Graph, Stop>
     }
 }
 
-/// theta_i, the matrix with this number, counted from 0.
-pub(crate) fn matrix_of(lift: &[Matrix], degree: u8) -> &Matrix
+/// The matrix of a lift with this number, counted from 0.
+pub fn matrix_of(lift: &[Matrix], degree: u8) -> &Matrix
     requires { degree < length lift.now }
     ensures ring { (r : Ring) → AreMatricesOver r lift.now → result.now.ring ≡ r }
     ensures value { (r : Ring) → matrix_at r.prime r.vars (matrices_meaning r lift.now) degree ≡ matrix_meaning r result.now }

@@ -32,12 +32,16 @@ pub(crate) fn relations(
     ensures ring { IfOk result (λ p. p.generators.graph.matrix.ring ≡ resolution.now.first.matrix.ring) }
     ensures rows { IfOk result (λ p. p.generators.graph.matrix.rows ≡ length z.now.columns) }
 {
-    let below = below(alloc, resolution, degree)?;
+    let below = coboundaries(alloc, resolution, degree)?;
     preimage(alloc, z, &below, work)
 }
 
-// `flip(d_i)`; d_0 is the matrix without rows from P_0 to 0.
-fn below(alloc: Global, resolution: &Resolution, degree: u8) -> Result<Matrix, AllocError>
+/// The matrix `flip(d_i)`, whose image is the coboundaries of stage 0; d_0 is the matrix without rows from P_0 to 0.
+pub fn coboundaries(
+    alloc: Global,
+    resolution: &Resolution,
+    degree: u8,
+) -> Result<Matrix, AllocError>
     requires degree { degree ≤ length resolution.now.next }
     ensures ring { IfOk result (λ m. m.ring ≡ resolution.now.first.matrix.ring) }
     ensures rows { let r = resolution.now.first.matrix.ring in

@@ -93,7 +93,7 @@ module _ (r : Ring) where
   abbrev pub rows_of : Graph r → ℕ
   rows_of g = graph_rows r.prime r.vars g.matrix
 
-  graph_long : (A : MatrixOf r) → HasShape r.prime r.vars A.rows (length A.columns) A → AllLong r.prime r.vars (graph_rows r.prime r.vars A) (graph r.prime r.vars A).columns
+  pub graph_long : (A : MatrixOf r) → HasShape r.prime r.vars A.rows (length A.columns) A → AllLong r.prime r.vars (graph_rows r.prime r.vars A) (graph r.prime r.vars A).columns
   unfolding HasShape matrix_above matrix_unit
   graph_long A s = column_length r.prime r.vars (graph_rows r.prime r.vars A) (length A.columns) (graph r.prime r.vars A)
       (stacked_shaped P A.rows (length A.columns) (length A.columns) A (matrix_unit r.prime r.vars (length A.columns)) refl (unit_shaped P (length A.columns)).0 refl)

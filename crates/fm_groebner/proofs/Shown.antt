@@ -230,7 +230,7 @@ module _ (p : Prime) (n : ℕ) where
   twisted_lists k e [] = refl
   twisted_lists k e (v ∷ gs) = ap₂ (λ x y. x ∷ y) (sym (vector_of_twisted p n k e v)) (twisted_lists k e gs)
 
-  falling_members : (k : ℕ) (o : Order) (e : ℕ) (members : List (List VTerm)) → AreFalling p n k o members → AreFalling p n k o (map (twisted (prime_value p ^ e)) members)
+  pub falling_members : (k : ℕ) (o : Order) (e : ℕ) (members : List (List VTerm)) → AreFalling p n k o members → AreFalling p n k o (map (twisted (prime_value p ^ e)) members)
   falling_members k o e members all ts i =
       let x = in_of_map (twisted (prime_value p ^ e)) members (in_of_contains (map (twisted (prime_value p ^ e)) members) ts i) in
       subst (IsFalling p n k o) x.2 (twisted_falling p n k o e x.0 (all x.0 (contains_of_in x.1)))

@@ -1,1 +1,4 @@
+pub mod ContainedRuns
+pub mod JoinRuns
 pub mod MapRuns
+pub mod OntoRuns

@@ -44,6 +44,10 @@ module _ (r : Ring) where
     tested_spends : (x : Preimage r) → Spends (tested x)
     tested_spends x = then_spends (inside_run r x.found g) (λ y. ready (x, y)) (inside_spends r x.found g) (λ y units. omega arith)
 
+    pub fibre_spends : Spends (fibre_work r phi K g)
+    unfolding fibre_work
+    fibre_spends = then_spends (preimage_run r phi K) tested (preimage_spends r phi K) tested_spends
+
     pub preimage_stops : (old new : ℕ) (z : Stop) → Follows {X = PreimageValue} (preimage_meaning r) (Err z) old new (preimage_run r phi K old) → Follows {X = Fibre} (fibre_value r) (Err z) old new (fibre_work r phi K g old)
     unfolding fibre_work
     preimage_stops old new z h = row_stops (preimage_run r phi K) tested old new (preimage_meaning r) (fibre_value r) halt_of z tested_spends h

@@ -1,1 +1,2 @@
 pub mod Fibres
+pub mod Joins

@@ -4,7 +4,7 @@ ghost use Rattle.fm_algebra.specs.PolynomialMatrices.{matrix_unit};
 ghost use Rattle.fm_graphs.specs.Graphs.{MatrixOf};
 ghost use Rattle.fm_limit.specs.Facts.{ColumnsInImage};
 ghost use Rattle.fm_limit.specs.ResolvedIdeal.{IsLiftOfIdentityOf, IsResolutionOf, row};
-ghost use Rattle.fm_lift.specs.Lifts.{AreAligned, AreGraphsFrom, after_the_first, graphs_meaning, matrices_meaning, product_work};
+ghost use Rattle.fm_lift.specs.Lifts.{AreAligned, AreGraphsFrom, AreMatricesOver, after_the_first, graphs_meaning, matrices_meaning, product_work};
 ghost use Rattle.fm_mat.specs.Matrices.{matrix_meaning};
 ghost use Rattle.fm_plan.specs.Following.{FollowsPlan};
 ghost use Rattle.fm_plan.specs.Queries as plans;
@@ -38,6 +38,7 @@ pub fn over_identity(
         (graphs_meaning ring (map (λ g. g.now) graphs.now)) work.old) }
     ensures first { IfOk result (λ ls. matrices_meaning ring ls.items
         ≡ matrix_unit ring.prime ring.vars 1 ∷ after_the_first (matrices_meaning ring ls.items)) }
+    ensures rings { IfOk result (λ ls. AreMatricesOver ring ls.items) }
     ensures lifts { (fs gs : Ideal ring) (i : ℕ) (ds us : List (MatrixOf ring))
         → IsResolutionOf ring.prime ring.vars gs i ds → IsResolutionOf ring.prime ring.vars fs i us
         → ColumnsInImage ring.prime ring.vars (row ring.prime ring.vars fs) (row ring.prime ring.vars gs)

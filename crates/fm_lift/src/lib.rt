@@ -11,4 +11,4 @@ mod tests;
 
 pub use frobenius::frobenius_lift;
 pub use identity::over_identity;
-pub use steps::{lift_of_product, lift_through, product};
+pub use steps::{lift_of_product, lift_through, product, twisted};

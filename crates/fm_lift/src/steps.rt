@@ -58,9 +58,9 @@ pub fn lift_of_product(
     lift_columns(alloc, g, &product, work)
 }
 
-// The twist by p.
+/// The twist by p, in a run: it spends no unit, and may pass the bound on exponents.
 #[tactic(auto, unfolding(fm_graphs::specs::Bounds::twisted_matrix))]
-fn twisted(alloc: Global, a: &Matrix) -> Result<Matrix, Stop>
+pub fn twisted(alloc: Global, a: &Matrix) -> Result<Matrix, Stop>
     ensures follows { (r : Ring) (units : ℕ) → a.now.ring ≡ r → Follows (matrix_meaning r) result units units
         (twisted_matrix r.prime r.vars 1 (matrix_meaning r a.now) units) }
     ensures ring { IfOk result (λ m. m.ring ≡ a.now.ring) }

@@ -41,7 +41,7 @@ use Rattle.fm_plan.proofs.Chains.{LinkGraphs}
 use Rattle.fm_plan.proofs.Bases.{Based, base_from}
 use Rattle.fm_run.specs.declared.task.Name.TheVariants as names
 
-allowed_ends : (r : Ring) (test : Bool) (refusal : Refusal) (units left : ℕ) (u : Unit {0}) → Ends (allowed r test refusal units) u left → test ≡ true
+pub allowed_ends : (r : Ring) (test : Bool) (refusal : Refusal) (units left : ℕ) (u : Unit {0}) → Ends (allowed r test refusal units) u left → test ≡ true
 allowed_ends r true refusal units left u e = refl
 allowed_ends r false refusal units left u e = absurd (no_value (refused refusal) u units left e)
 
@@ -65,7 +65,7 @@ module _ (r : Ring) where
       go true z none later = let one : f ∷ [] ≡ zero_vector p n 1 = zero_terms r 1 (f ∷ []) refl z in ap₂ (λ g gs. g ∷ gs) (ap (λ (v : VectorOf r). get_or v 0 f) one) (later none)
       go false z none later = absurd (some_is_none k none)
 
-  cocycle_is : (mid high e : ℕ) (d : MatrixOf r) (z : VectorOf r) → HasShape p n mid high d → length z ≡ mid → (units left : ℕ) → Ends (cocycle_work r e d z units) None left → InKernel p n (matrix_transpose p n (matrix_twist p n e d)) z
+  pub cocycle_is : (mid high e : ℕ) (d : MatrixOf r) (z : VectorOf r) → HasShape p n mid high d → length z ≡ mid → (units left : ℕ) → Ends (cocycle_work r e d z units) None left → InKernel p n (matrix_transpose p n (matrix_twist p n e d)) z
   unfolding cocycle_work twisted_matrix multiplied matrix_column column_matrix InKernel vector_product polynomial_zero
   cocycle_is mid high e d z s l units left ends =
       let test = λ (B : MatrixOf r). first_nonzero r 1 (get_or B.columns 0 []) in

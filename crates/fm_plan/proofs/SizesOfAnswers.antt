@@ -33,6 +33,16 @@ use Rattle.fm_plan.proofs.Tasks.{task_ends}
 use Rattle.fm_plan.proofs.SizesOfBases.{AreGraphsAtMost, graphs_taken, graphs_next, preimages_more, row_at_most, graph_at_most, resolution_sizes, ext_sizes, base_of_sizes, base_sizes}
 use Rattle.fm_run.specs.declared.task.Name.TheVariants as names
 
+module _ (r : Ring) where
+  -- the test of a class makes no unit
+  pub cocycle_spends : (e : ℕ) (d : MatrixOf r) (z : VectorOf r) → Spends (cocycle_work r e d z)
+  unfolding cocycle_work
+  cocycle_spends e d z =
+      let test = λ (B : MatrixOf r). ready (first_nonzero r 1 (get_or B.columns 0 [])) in
+      then_spends (twisted_matrix r.prime r.vars e d) (λ D. multiplied r.prime r.vars (matrix_transpose r.prime r.vars D) (matrix_column r.prime r.vars z) >>= test) (twist_spends r e d)
+      (λ D. then_spends (multiplied r.prime r.vars (matrix_transpose r.prime r.vars D) (matrix_column r.prime r.vars z)) test
+      (multiplied_spends r (matrix_transpose r.prime r.vars D) (matrix_column r.prime r.vars z)) (λ B units. omega arith))
+
 module _ (r : Ring) (most : ℕ) where
   -- ---- zero, root, resolution, ext and member
   pub zero_sizes : (i : ℕ) (fs : Ideal r) → i + 2 ≤ most → length fs ≤ most → (units left : ℕ) (x : Found r) → units < most → Ends (plan r (ask_zero i fs) units) x left → HasSizes r most x
@@ -154,14 +164,6 @@ module _ (r : Ring) (most : ℕ) where
   unless_left refusal None units left u e = let h = same_left tt u units left e in omega (arith, h)
   unless_left refusal (Some k) units left u e = absurd (no_value (refused (refusal k)) u units left e)
 
-  cocycle_spends : (e : ℕ) (d : MatrixOf r) (z : VectorOf r) → Spends (cocycle_work r e d z)
-  unfolding cocycle_work
-  cocycle_spends e d z =
-      let test = λ (B : MatrixOf r). ready (first_nonzero r 1 (get_or B.columns 0 [])) in
-      then_spends (twisted_matrix r.prime r.vars e d) (λ D. multiplied r.prime r.vars (matrix_transpose r.prime r.vars D) (matrix_column r.prime r.vars z) >>= test) (twist_spends r e d)
-      (λ D. then_spends (multiplied r.prime r.vars (matrix_transpose r.prime r.vars D) (matrix_column r.prime r.vars z)) test
-      (multiplied_spends r (matrix_transpose r.prime r.vars D) (matrix_column r.prime r.vars z)) (λ B units. omega arith))
-
   pub class_sizes : (i : ℕ) (fs : Ideal r) (e : ℕ) (z : VectorOf r) → i + 2 ≤ most → length fs ≤ most → (units left : ℕ) (x : Found r) → units < most → Ends (plan r (ask_class i fs e z) units) x left → HasSizes r most x
   unfolding plan
   class_sizes i fs e z degree generators units left x enough ends =
@@ -183,7 +185,7 @@ module _ (r : Ring) (most : ℕ) where
       let w = solution_of r j.value in
       let l = bound (stages r e w 0 None (chain_graphs r b)) (λ s. ready (found_class i fs b e z w s)) j.between left x j.second in
       let one_left = allowed_left (length z == (dat y).rows) (wrong_length (length z) (dat y).rows) a.between c.between c.value c.first in
-      let two_left = left_of (cocycle_work r e (dat y) z) c.between f.between f.value (cocycle_spends e (dat y) z) (task_ends Alone names.Test 0 (cocycle_work r e (dat y) z) c.between f.between f.value f.first) in
+      let two_left = left_of (cocycle_work r e (dat y) z) c.between f.between f.value (cocycle_spends r e (dat y) z) (task_ends Alone names.Test 0 (cocycle_work r e (dat y) z) c.between f.between f.value f.first) in
       let three_left = unless_left not_a_cocycle f.value f.between g.between g.value f.second in
       let zero_left = X.1 in
       let B = base_of_sizes r most Alone i y (omega (arith, degree)) X.0 g.between k.between b (omega (arith, zero_left, one_left, two_left, three_left)) k.first in

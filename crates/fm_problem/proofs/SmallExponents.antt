@@ -170,8 +170,8 @@ asked_within q (MemberLine n text) z h =
 
 query_within : (q : Problem) (s : Statement) (z : Query) → query_in q s ≡ Ok z → IsSmallQuery z
 query_within q s z h =
-    let read = first_read (asked q s) (λ z. if is_built q.ideals z then Ok z else Err NotBuilt) z h in
-    let test = passed (is_built q.ideals read.0) NotBuilt (Ok read.0) z read.2 in
+    let read = first_read (asked q s) (λ z. if is_built z then Ok z else Err NotBuilt) z h in
+    let test = passed (is_built read.0) NotBuilt (Ok read.0) z read.2 in
     subst IsSmallQuery (same_ok test.1) (asked_within q s read.0 read.1)
 
 with_query_within : (q t : Problem) (s : Statement) → HasSmallExponents q → with_query q s ≡ Ok t → HasSmallExponents t

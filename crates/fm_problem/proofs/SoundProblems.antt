@@ -22,7 +22,7 @@ use Rattle.fm_problem.specs.declared.ideal.Ideal.{Ideal}
 use Rattle.fm_problem.specs.declared.query.Query.{Query}
 use Rattle.fm_problem.specs.declared.query.Query as queries
 use Rattle.fm_text.specs.Polynomials.{Rules}
-use Rattle.fm_problem.specs.Problems.{polynomial_in, plus_name, bare, ring_of, order_in, with_order, rules_of, Generators, unless_empty, unless_zero, plus_generator, generators_in, ideal_names, plus_ideal, with_ideal, degree_in, ideal_in, stage_in, plus_entry, vector_in, module_query, asked, is_principal, is_built, query_in, plus_query, with_query, with_line, at_line, plus_line, after_second, after_ring, from_lines, problem_of, query_of_statement, query_of}
+use Rattle.fm_problem.specs.Problems.{polynomial_in, plus_name, bare, ring_of, order_in, with_order, rules_of, Generators, unless_empty, unless_zero, plus_generator, generators_in, ideal_names, plus_ideal, with_ideal, degree_in, ideal_in, stage_in, plus_entry, vector_in, module_query, asked, is_built, query_in, plus_query, with_query, with_line, at_line, plus_line, after_second, after_ring, from_lines, problem_of, query_of_statement, query_of}
 use Rattle.fm_problem.specs.Statements.{Statement, RingLine, OrderLine, IdealLine, ModuleLine, ClassLine, InvertLine, MapLine, MemberLine, statement_of}
 use Rattle.fm_gfp.specs.Primes.{prime_of}
 use Rattle.fm_text.specs.SumOfTerms.{IsPolynomialOf}
@@ -89,30 +89,6 @@ query_more q i z w = more z w
     more (queries.TheVariants.Resolution j k) w = (w.0, still k w.1)
     more (queries.TheVariants.ExtOf j k) w = (w.0, still k w.1)
 
-get_more : (is : List Ideal) (i j : Ideal) (k : ℕ) → slice_get is k ≡ Some j → slice_get (is ++ i ∷ []) k ≡ Some j
-get_more [] i j k h = absurd (let e : ◌≡◌ {A = Option Ideal} None (Some j) = h in cc)
-get_more (l ∷ is) i j zero h = h
-get_more (l ∷ is) i j (suc k) h = get_more is i j k h
-
-principal_more : (is : List Ideal) (i : Ideal) (k : ℕ) (found : Option Ideal) → slice_get is k ≡ found → is_principal found ≡ true → is_principal (slice_get (is ++ i ∷ []) k) ≡ true
-principal_more is i k None e h = absurd (let f : false ≡ true = h in cc)
-principal_more is i k (Some j) e h = ap is_principal (get_more is i j k e) ∙ h
-
--- a query that is answered is still answered after further ideals
-built_more : (is : List Ideal) (i : Ideal) (z : Query) → is_built is z ≡ true → is_built (is ++ i ∷ []) z ≡ true
-built_more is i (queries.TheVariants.Class j k e z) h =
-    let first = both (nat_eq j 1) (is_principal (slice_get is k) && nat_eq (length z) 1) h in
-    let second = both (is_principal (slice_get is k)) (nat_eq (length z) 1) first.1 in
-    rw (first.0, principal_more is i k (slice_get is k) refl second.0, second.1) refl
-built_more is i (queries.TheVariants.Zero j k) h = h
-built_more is i (queries.TheVariants.Root j k) h = h
-built_more is i (queries.TheVariants.Invert j k f) h = h
-built_more is i (queries.TheVariants.Support j k) h = h
-built_more is i (queries.TheVariants.Map j k l) h = h
-built_more is i (queries.TheVariants.Member k f) h = h
-built_more is i (queries.TheVariants.Resolution j k) h = h
-built_more is i (queries.TheVariants.ExtOf j k) h = h
-
 ideal_added : (q : Problem) (n : Bytes) (fs : List PolyValue) → IsProblem q → length q.ideals < most_ideals → is_some (place 0 n (ideal_names q)) ≡ false
     → IsIdealOf q.ring (record { name = n; generators = fs }) → IsProblem (plus_ideal q n fs)
 ideal_added q n fs sound room fresh w =
@@ -126,7 +102,7 @@ ideal_added q n fs sound room fresh w =
       ideals_apart = subst AreApart (sym (map-append (λ j. j.name) q.ideals (i ∷ []))) (apart_more (ideal_names q) n sound.ideals_apart (not_found 0 n (ideal_names q) fresh));
       few_queries = sound.few_queries;
       asked = All_map (IsQueryOf q) (IsQueryOf (plus_ideal q n fs)) (λ z. query_more q i z) q.queries sound.asked;
-      built = All_map (λ z. is_built q.ideals z ≡ true) (λ z. is_built (q.ideals ++ i ∷ []) z ≡ true) (λ z. built_more q.ideals i z) q.queries sound.built;
+      built = sound.built;
     }
 
 ideal_sound : (q s : Problem) (n : Bytes) (texts : List Bytes) → is_name n ≡ true → IsProblem q → with_ideal q n texts ≡ Ok s → IsProblem s
@@ -206,11 +182,11 @@ asked_sound q (MemberLine n text) z sound h =
     let f = first_read (polynomial_in (rules_of q) text) (λ f. Ok (queries.TheVariants.Member k.0 f)) z k.2 in
     subst (IsQueryOf q) (same_ok f.2) (ideal_found q n k.0 k.1, line_polynomial_sound (rules_of q) text f.0 sound.bounded.named f.1)
 
-pub query_sound : (q : Problem) (s : Statement) (z : Query) → IsProblem q → query_in q s ≡ Ok z → IsQueryOf q z × (is_built q.ideals z ≡ true)
+pub query_sound : (q : Problem) (s : Statement) (z : Query) → IsProblem q → query_in q s ≡ Ok z → IsQueryOf q z × (is_built z ≡ true)
 query_sound q s z sound h =
-    let read = first_read (asked q s) (λ z. if is_built q.ideals z then Ok z else Err NotBuilt) z h in
-    let test = passed (is_built q.ideals read.0) NotBuilt (Ok read.0) z read.2 in
-    (subst (IsQueryOf q) (same_ok test.1) (asked_sound q s read.0 sound read.1), subst (λ y. is_built q.ideals y ≡ true) (same_ok test.1) test.0)
+    let read = first_read (asked q s) (λ z. if is_built z then Ok z else Err NotBuilt) z h in
+    let test = passed (is_built read.0) NotBuilt (Ok read.0) z read.2 in
+    (subst (IsQueryOf q) (same_ok test.1) (asked_sound q s read.0 sound read.1), subst (λ y. is_built y ≡ true) (same_ok test.1) test.0)
 
 same_asked : (q : Problem) (z y : Query) → IsQueryOf q y → IsQueryOf (plus_query q z) y
 same_asked q z (queries.TheVariants.Zero j k) v = v
@@ -223,7 +199,7 @@ same_asked q z (queries.TheVariants.Member k f) v = v
 same_asked q z (queries.TheVariants.Resolution j k) v = v
 same_asked q z (queries.TheVariants.ExtOf j k) v = v
 
-query_added : (q : Problem) (z : Query) → IsProblem q → length q.queries < most_queries → IsQueryOf q z × (is_built q.ideals z ≡ true) → IsProblem (plus_query q z)
+query_added : (q : Problem) (z : Query) → IsProblem q → length q.queries < most_queries → IsQueryOf q z × (is_built z ≡ true) → IsProblem (plus_query q z)
 query_added q z sound room w = let long = length-append q.queries (z ∷ []) in record {
   bounded = record { named = sound.bounded.named; some = sound.bounded.some; few = sound.bounded.few; few_ideals = sound.bounded.few_ideals };
   variables = sound.variables;
@@ -232,7 +208,7 @@ query_added q z sound room w = let long = length-append q.queries (z ∷ []) in 
   ideals_apart = sound.ideals_apart;
   few_queries = omega (arith, room, long);
   asked = All_map (IsQueryOf q) (IsQueryOf (plus_query q z)) (λ y. same_asked q z y) (q.queries ++ z ∷ []) (All_more (IsQueryOf q) q.queries z sound.asked w.0);
-  built = All_more (λ y. is_built q.ideals y ≡ true) q.queries z sound.built w.1;
+  built = All_more (λ y. is_built y ≡ true) q.queries z sound.built w.1;
 }
 
 with_query_sound : (q t : Problem) (s : Statement) → IsProblem q → with_query q s ≡ Ok t → IsProblem t

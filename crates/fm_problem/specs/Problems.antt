@@ -1,5 +1,5 @@
 -- What a problem text says, and its first fault: line by line, form before all else on a line, then from left to right.
-use Rattle.std.specs.Prelude.{◌≡◌, ◌≤◌, ℕ, ◌+◌, Bool, true, false, ◌&&◌, if◌then◌else◌, nat_eq, nat_le, nat_lt, List, [], ◌∷◌, ◌++◌, map, length, slice_get, Option, Some, None, is_some, Result, Ok, Err}
+use Rattle.std.specs.Prelude.{◌≡◌, ◌≤◌, ℕ, ◌+◌, Bool, true, false, ◌&&◌, if◌then◌else◌, nat_le, nat_lt, List, [], ◌∷◌, ◌++◌, map, length, Option, Some, None, is_some, Result, Ok, Err}
 use Rattle.fm_gfp.specs.declared.prime.Prime.{Prime}
 use Rattle.fm_gfp.specs.Primes.{prime_of}
 use Rattle.fm_mono.specs.declared.order.Order.{Order}
@@ -140,22 +140,14 @@ asked q (InvertLine i n text) =
 asked q (MapLine i n m) = degree_in q i >>= λ i. (ideal_in q n >>= λ k. (ideal_in q m >>= λ j. Ok (queries.TheVariants.Map i k j)))
 asked q (MemberLine n text) = ideal_in q n >>= λ k. (polynomial_in (rules_of q) text >>= λ f. Ok (queries.TheVariants.Member k f))
 
--- the ideal is there and has exactly one generator
-abbrev pub is_principal : Option Ideal → Bool
-is_principal None = false
-is_principal (Some i) = nat_eq (length i.generators) 1
-
--- the queries that the program answers: membership, resolutions, Ext, and classes of degree 1 of principal ideals
-abbrev pub is_built : List Ideal → Query → Bool
-is_built ideals (queries.TheVariants.Class i k e z) = nat_eq i 1 && (is_principal (slice_get ideals k) && nat_eq (length z) 1)
-is_built ideals (queries.TheVariants.Member k f) = true
-is_built ideals (queries.TheVariants.Resolution i k) = true
-is_built ideals (queries.TheVariants.ExtOf i k) = true
-is_built ideals z = false
+-- the queries that the program answers: all but maps
+abbrev pub is_built : Query → Bool
+is_built (queries.TheVariants.Map i k j) = false
+is_built z = true
 
 -- a query that isn't answered yet is a fault after every other of its line
 abbrev pub query_in : Problem → Statement → Result Query FaultKind
-query_in q s = asked q s >>= λ z. (if is_built q.ideals z then Ok z else Err NotBuilt)
+query_in q s = asked q s >>= λ z. (if is_built z then Ok z else Err NotBuilt)
 
 abbrev pub plus_query : Problem → Query → Problem
 plus_query q z = record { ring = q.ring; vars = q.vars; ideals = q.ideals; queries = q.queries ++ z ∷ [] }

@@ -57,7 +57,7 @@ pub record IsProblem (q : Problem) : Type 0 where
   pub ideals_apart : AreApart (ideal_names q)
   pub few_queries : length q.queries ≤ most_queries
   pub asked : All (IsQueryOf q) q.queries
-  pub built : All (λ z. is_built q.ideals z ≡ true) q.queries
+  pub built : All (λ z. is_built z ≡ true) q.queries
 
 -- ---- exponents
 -- each exponent is one that can be written

@@ -1,7 +1,7 @@
 // Queries of a problem text.
-ghost use Rattle.std.specs.Prelude.{◌≡◌, OnOk, slice_get};
+ghost use Rattle.std.specs.Prelude.{◌≡◌, OnOk};
 ghost use Rattle.fm_words.specs.Words.{value};
-ghost use Rattle.fm_problem.specs.Problems.{IsBounded, asked, degree_in, ideal_in, is_built as is_built_query, is_principal as is_principal_ideal, module_query as module_query_of, query_in as query_of_line, stage_in, vector_in, with_query};
+ghost use Rattle.fm_problem.specs.Problems.{IsBounded, asked, degree_in, ideal_in, is_built as is_built_query, module_query as module_query_of, query_in as query_of_line, stage_in, vector_in, with_query};
 ghost use Rattle.fm_problem.specs.Statements.{entries_of};
 ghost use Rattle.fm_text.specs.Views.{FitsRules, rules_view};
 ghost use Rattle.fm_problem.specs.Views.{statement_view};
@@ -13,7 +13,7 @@ use crate::limits::{QUERIES, STAGE};
 use crate::places::ideal_place;
 use crate::polynomials::polynomial_of_line;
 use crate::statements::StatementText;
-use crate::{FaultKind, Ideal, Problem, Query};
+use crate::{FaultKind, Problem, Query};
 use fm_poly::Poly;
 use fm_text::Rules;
 use fm_words::{Mark, ReadError, first_part, is_blank, number};
@@ -135,25 +135,13 @@ fn read_asked(
     }
 }
 
-fn is_principal(ideals: &[Ideal], k: u32) -> bool
-    ensures { result ≡ is_principal_ideal (slice_get ideals.now k) }
-{
-    match ideals.get(k as usize) {
-        Some(ideal) => ideal.generators.len() == 1,
-        None => false,
-    }
-}
-
 // Whether the program answers the query.
-fn is_built(problem: &Problem, query: &Query) -> bool
-    ensures { result ≡ is_built_query problem.now.ideals query.now }
+fn is_built(query: &Query) -> bool
+    ensures { result ≡ is_built_query query.now }
 {
     match query {
-        Query::Class { i, ideal, e: _, z } => {
-            *i == 1 && (is_principal(problem.ideals.as_slice(), *ideal) && z.len() == 1)
-        }
-        Query::Member { .. } | Query::Resolution { .. } | Query::ExtOf { .. } => true,
-        _ => false,
+        Query::Map { .. } => false,
+        _ => true,
     }
 }
 
@@ -167,7 +155,7 @@ pub fn query_in(
     ensures { Gives (λ z. z) result (query_of_line problem.now (statement_view statement.entry)) }
 {
     let query = read_asked(alloc, problem, statement)?;
-    if !is_built(problem, &query) {
+    if !is_built(&query) {
         return Err(ReadError::Fault(FaultKind::NotBuilt));
     }
     Ok(query)

@@ -15,7 +15,7 @@ type Row = (&'static str, u32, FaultKind);
 
 const NORMAL_CROSSING: &[u8] = b"ring 3 x y\nideal I = x*y\nclass 1 I 0 (x^2*y)\n";
 
-const FORMS: [Row; 26] = [
+const FORMS: [Row; 23] = [
     ("", 1, FaultKind::Syntax),
     ("# only", 2, FaultKind::Syntax),
     ("# only\n", 2, FaultKind::Syntax),
@@ -36,26 +36,11 @@ const FORMS: [Row; 26] = [
     ("ring 2 x\nideal I = x +- x", 2, FaultKind::Syntax),
     ("ring 2 x\nideal I = x\nmember I-x", 3, FaultKind::Syntax),
     ("ring 2 x\nideal I = x\ninvert 1 I+x", 3, FaultKind::Syntax),
-    ("ring 2 x\nideal I = x\nzero 1 I", 3, FaultKind::NotBuilt),
+    ("ring 2 x\nideal I = x\nmap 1 I I", 3, FaultKind::NotBuilt),
     (
         "ring 2 x\nideal I = x\nzero 9 T extra",
         3,
         FaultKind::Syntax,
-    ),
-    (
-        "ring 2 x\nideal I = x\nclass 1 I 0 ( )",
-        3,
-        FaultKind::NotBuilt,
-    ),
-    (
-        "ring 2 x\nideal I = 0\nclass 1 I 0 (x)",
-        3,
-        FaultKind::NotBuilt,
-    ),
-    (
-        "ring 2 x\nideal I = x\nclass 0 I 0 (x)",
-        3,
-        FaultKind::NotBuilt,
     ),
     ("ring 2 x\nfoo\nideal I = t", 2, FaultKind::Syntax),
 ];
@@ -324,7 +309,7 @@ fn reads_queries_alone(rt: HostRuntime) -> Result<(), Fail> {
         ("# class 1 I 0 (1)", FaultKind::Syntax),
         ("  ", FaultKind::Syntax),
         ("class 1 K 0 (1)", FaultKind::UnknownName),
-        ("class 1 I 0 (1, 1)", FaultKind::NotBuilt),
+        ("map 1 I J", FaultKind::NotBuilt),
     ];
     for (line, want) in rows {
         match read_query(rt.alloc(), &problem, line.as_bytes()) {

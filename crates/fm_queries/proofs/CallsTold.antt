@@ -1,6 +1,8 @@
 -- Calls on the graph of the stable kernel, in the ring of the query.
-use Rattle.std.proofs.Common.{ℕ, ◌≡◌, ◌∙◌, Result, subst}
+use Rattle.std.proofs.Common.{ℕ, ◌≡◌, ◌∙◌, List, Result, subst}
 use Rattle.fm_poly.specs.declared.ring.Ring.{Ring}
+use Rattle.fm_poly.specs.declared.term.Term.{Term}
+use Rattle.fm_poly.specs.Polys.{meaning}
 use Rattle.fm_mat.specs.Matrices.{matrix_meaning}
 use Rattle.fm_run.specs.declared.stop.Stop.{Stop}
 use Rattle.fm_run.specs.declared.task.Stopped.{Stopped}
@@ -15,6 +17,8 @@ use Rattle.fm_syz.specs.GeneratorValues.{PreimageValue, preimage_meaning}
 use Rattle.fm_syz.specs.Insides.{inside_value}
 use Rattle.fm_syz.specs.declared.inside.Inside.{Inside}
 use Rattle.fm_support.specs.Annihilators.{annihilator_work}
+use Rattle.fm_support.specs.Inverting.{inverted_value, invert_plan}
+use Rattle.fm_support.specs.declared.inverting.Inverted.{Inverted}
 
 module _ (r : Ring) (g h : GraphValue) (same : h ≡ g) (ring : g.matrix.ring ≡ r) (old new : ℕ) where
   pub whole_told : (result : Result Inside Stop) → (let s = h.matrix.ring in Follows (inside_value s) result old new (whole_run s (graph_meaning s h) old))
@@ -28,3 +32,10 @@ module _ (r : Ring) (g h : GraphValue) (same : h ≡ g) (ring : g.matrix.ring �
   annihilator_told values result k =
       subst (λ (s : Ring). FollowsPlan (λ y. preimage_meaning s (values y)) result old new (task Alone names.Annihilator 0 (annihilator_work s (matrix_meaning s g.matrix)) old)) ring
       (subst (λ (h : GraphValue). let s = h.matrix.ring in FollowsPlan (λ y. preimage_meaning s (values y)) result old new (task Alone names.Annihilator 0 (annihilator_work s (matrix_meaning s h.matrix)) old)) same k)
+
+  pub inverting_told : (ts : List Term) (result : Result Inverted Stopped)
+      → (let s = h.matrix.ring in FollowsPlan (inverted_value s) result old new (invert_plan s (meaning s ts) (graph_meaning s h) old))
+      → FollowsPlan (inverted_value r) result old new (invert_plan r (meaning r ts) (graph_meaning r g) old)
+  inverting_told ts result k =
+      subst (λ (s : Ring). FollowsPlan (inverted_value s) result old new (invert_plan s (meaning s ts) (graph_meaning s g) old)) ring
+      (subst (λ (h : GraphValue). let s = h.matrix.ring in FollowsPlan (inverted_value s) result old new (invert_plan s (meaning s ts) (graph_meaning s h) old)) same k)

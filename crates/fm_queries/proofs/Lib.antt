@@ -5,3 +5,13 @@ pub mod StableGraphs
 pub mod QueryRuns
 pub mod QueryPlans
 pub mod CallsTold
+pub mod Grouping
+pub mod InvertPlans
+pub mod DualImages
+pub mod Nonzero
+pub mod ClassTests
+pub mod Moves
+pub mod ImageRuns
+pub mod ClassRuns
+pub mod ClassTold
+pub mod Coordinates

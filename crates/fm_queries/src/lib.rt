@@ -3,9 +3,22 @@
 #![tactic(auto)]
 
 pub mod base;
+pub mod class;
+pub mod coboundaries;
+pub(crate) mod duals;
+pub mod invert;
+pub mod moving;
 pub mod support;
+pub mod testing;
+pub mod unanswered;
 pub mod zero;
 
 pub use base::{Base, compute_base, compute_base_of};
+pub use class::{Class, decide_class};
+pub use coboundaries::is_zero_at;
+pub use invert::{Inverting, decide_inverting};
+pub use moving::move_class;
 pub use support::{Support, compute_support};
+pub use testing::test_class;
+pub use unanswered::{Refusal, Unanswered};
 pub use zero::{Zero, decide_zero};

@@ -37,6 +37,7 @@ pub fn compute_support(
     ensures follows { let fs = column_meaning ring generators.now in FollowsPlan (support_value ring degree fs) result work.old work.new
         (plan ring (ask_support degree fs) work.old) }
     ensures ring { IfOk result (λ x. ring_of x.base.ext ≡ ring) }
+    ensures row { IfOk result (λ x. x.annihilator.generators.graph.matrix.ring ≡ ring) }
 {
     let base = compute_base(alloc, Side::Alone, ring, generators, degree, work)?;
     let annihilator = annihilator(alloc, base.stable_kernel(), work)?;

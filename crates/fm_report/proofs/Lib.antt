@@ -1,5 +1,6 @@
 pub mod Lines
 pub mod Holding
+pub mod Choices
 pub mod Written
 pub mod HeadsRead
 pub mod ReportsRead

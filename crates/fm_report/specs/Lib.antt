@@ -3,6 +3,7 @@ pub mod Sheets
 pub mod Verdicts
 pub mod Reading
 pub mod Holding
+pub mod Choices
 pub mod Reports
 pub mod Answered
 pub mod Examples

@@ -105,7 +105,7 @@ say_end s kind values = if is_answer kind then say_answer s (record { kind = kin
 
 -- ---- parts; their numbers count from 1
 
-abbrev pub numbered : List Part → ℕ → Option Part
+abbrev pub numbered : {A : Type 0} → List A → ℕ → Option A
 numbered [] k = None
 numbered (a ∷ more) k = if nat_eq k 1 then Some a else numbered more (k - 1)
 

@@ -7,6 +7,7 @@
 //   Verdicts  what is stated (`Stated`), and the verdict of an answered query (`verdict_of`), a row for each kind of query
 //   Reading   what bytes state (`statements`)
 //   Holding   when that holds (`IsHeld`, `VerdictsHold`)
+//   Choices   that it holds for every choice of resolutions and lifts (`HoldsForEveryChoice`)
 //   Answered  how many answers of a text are ended, by its first words alone
 //   Reports   reports as they are written (`report_text`), and what they say (`report_says`)
 //   Examples  the pieces of short reports
@@ -18,6 +19,7 @@
 //   a_message_states_nothing               a line on which no verdict rests states nothing
 //   each_answer_is_stated                  at least as many things are stated as answers are ended
 //   each_verdict_holds                     where all holds, each thing holds
+//   verdicts_hold_for_every_choice         what holds along the printed matrices holds along all others
 //   a_short_report_of_each_kind, a_stable_block_states_its_root, broken_lines_state_what_never_holds   by computation
 #![tactic(auto)]
 

@@ -9,3 +9,4 @@ pub(crate) mod rows;
 
 pub use membership::{Membership, decide_member};
 pub use resolution::{Resolution, resolve};
+pub use rows::one_column;

@@ -105,6 +105,20 @@ impl Resolution {
         }
         Ok(graphs)
     }
+
+    /// d_1, d_2, .., count of them.
+    pub fn differentials(&self, alloc: Global, count: usize) -> Result<Vec<&Matrix>, AllocError>
+        requires { count ≤ length self.now.next + 1 }
+        ensures value { IfOk result (λ ds. map (λ d. d.now) ds.items ≡ take count (map (λ (g : GraphValue). g.matrix) (graphs_of self.now))) }
+        ensures resolution { IsResolution self.now }
+    {
+        let _ = &self.first;
+        let mut differentials = Vec::new(alloc);
+        for j in 0..count {
+            differentials.push(self.differential(j + 1))?;
+        }
+        Ok(differentials)
+    }
 }
 
 /// A resolution through this degree of the ideal of the generators, by the tasks `resolve 1`, `resolve 2`, ..

@@ -53,7 +53,7 @@ pub(crate) fn first_graph(
 }
 
 /// The matrix of this column alone.
-pub(crate) fn one_column(alloc: Global, ring: Ring, column: Column) -> Result<Matrix, AllocError>
+pub fn one_column(alloc: Global, ring: Ring, column: Column) -> Result<Matrix, AllocError>
     requires over { AreOver ring column }
     requires room { length column < 2 ^ 32 }
     ensures { IfOk result (λ m. m ≡ record { ring = ring; rows = length column; columns = column ∷ [] }) }

@@ -47,8 +47,12 @@ module _ (r : Ring) (f : Polynomial r.prime r.vars) (g : Graph r) where
   coloned_spends (all_inside ws) = λ units. omega arith
   coloned_spends (first_outside o) = turning_spends o
 
-  asked_spends : (y : runs.Inside r) → Spends (asked y)
+  pub asked_spends : (y : runs.Inside r) → Spends (asked y)
   asked_spends y = then_spends (coloned r f g y) (inverted_of r f g) (coloned_spends y) inverted_spends
+
+  pub invert_spends : Spends (invert_plan r f g)
+  unfolding invert_plan
+  invert_spends = then_spends first asked (whole_spends r g) asked_spends
 
   pub first_stops : (old new : ℕ) (z : Stopped) → FollowsPlan {X = Inside} (inside_value r) (Err z) old new (first old) → FollowsPlan {X = Inverted} (inverted_value r) (Err z) old new (invert_plan r f g old)
   unfolding invert_plan

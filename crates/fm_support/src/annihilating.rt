@@ -28,6 +28,7 @@ pub fn annihilator(alloc: Global, k: &Graph, work: &mut Work) -> Result<Preimage
     ensures follows { let r = k.now.matrix.ring in FollowsPlan (preimage_meaning r) result work.old work.new
         (task sides.Alone names.Annihilator 0 (annihilator_work r (matrix_meaning r k.now.matrix)) work.old) }
     ensures generates { IfOk result (Annihilates k.now.matrix.ring (matrix_meaning k.now.matrix.ring k.now.matrix)) }
+    ensures ring { IfOk result (λ P. P.generators.graph.matrix.ring ≡ k.now.matrix.ring) }
 {
     let task = Task {
         side: Side::Alone,
@@ -44,6 +45,7 @@ fn annihilator_row(alloc: Global, k: &Graph, work: &mut Work) -> Result<Preimage
     ensures follows { let r = k.now.matrix.ring in Follows (preimage_meaning r) result work.old work.new
         (annihilator_work r (matrix_meaning r k.now.matrix) work.old) }
     ensures generates { IfOk result (Annihilates k.now.matrix.ring (matrix_meaning k.now.matrix.ring k.now.matrix)) }
+    ensures ring { IfOk result (λ P. P.generators.graph.matrix.ring ≡ k.now.matrix.ring) }
 {
     let g = k.rows();
     if !is_small(g, g) || !is_small(g, k.width()) {

@@ -169,8 +169,8 @@ fn settle(
     }
 }
 
-// The graph of the last colon, or k where there is none.
-fn newest<'a>(k: &'a Graph, colons: &'a [Preimage]) -> &'a Graph
+/// The graph of the last of these preimages, or k where there is none. It takes no memory.
+pub fn newest<'a>(k: &'a Graph, colons: &'a [Preimage]) -> &'a Graph
     ensures { result.now ≡ values.newest k.now colons.now }
 {
     match colons.last() {

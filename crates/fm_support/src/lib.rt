@@ -12,4 +12,5 @@ pub mod scalars;
 mod tests;
 
 pub use annihilating::annihilator;
+pub use colons::newest;
 pub use inverting::{Inverted, invert};

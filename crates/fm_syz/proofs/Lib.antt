@@ -17,3 +17,4 @@ pub mod CutBlocks
 pub mod ChosenVectors
 pub mod TrimCalls
 pub mod GeneratorFacts
+pub mod ImageTests

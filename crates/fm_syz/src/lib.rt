@@ -37,5 +37,6 @@ pub use kernels::syzygies;
 pub use lifted::{Lifted, lift};
 pub use lifts::lift_columns;
 pub use preimages::Preimage;
+pub use spanning::is_in_image;
 pub use trimming::trim;
 pub use twisting::twisted;

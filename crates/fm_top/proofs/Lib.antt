@@ -1,3 +1,4 @@
+pub mod CommandLine
 pub mod Outputs
 pub mod Verdicts
 pub mod Ideals

@@ -7,9 +7,10 @@ use Rattle.fm_problem.specs.declared.problem.Problem as problems
 use Rattle.fm_problem.specs.Faults.{Fault, fault_text}
 use Rattle.fm_problem.specs.Problems.{problem_of}
 use Rattle.fm_report.specs.Holding.{VerdictsHold}
-use Rattle.fm_answers.specs.Answers.{are_answered}
-use Rattle.fm_decide.specs.Answers.{answers, report_bytes}
-use Rattle.fm_top.specs.Words.{budget_of}
+use Rattle.fm_answers.specs.Answers.{are_answered, query_reports, report_bytes}
+use Rattle.fm_top.specs.declared.call.Call.{Call}
+use Rattle.fm_top.specs.declared.call.Call.TheVariants.{Decide, Sample}
+use Rattle.fm_top.specs.Words.{call_of}
 
 -- a status and the bytes written
 pub record Output : Type 0 where
@@ -33,7 +34,7 @@ faulted f = record { status = Problem; bytes = codes "line " ++ (decimal f.line 
 
 -- the report of a problem; the status tells whether each query is answered
 abbrev pub reported : ℕ → problems.Problem → Output
-reported units q = record { status = if are_answered (answers units q q.queries) then Done else Unanswered; bytes = report_bytes units q }
+reported units q = record { status = if are_answered (query_reports units q q.queries) then Done else Unanswered; bytes = report_bytes units q }
 
 abbrev pub judged : ℕ → Result problems.Problem Fault → Output
 judged units (Ok q) = reported units q
@@ -43,21 +44,25 @@ judged units (Err f) = faulted f
 unfoldable pub decided : ℕ → List ℕ → Output
 decided units text = judged units (problem_of text)
 
-abbrev pub output_within : Option ℕ → List ℕ → Output
+-- what a call gives on a text; no sample is drawn yet
+abbrev pub output_within : Option Call → List ℕ → Output
 output_within None text = usage
-output_within (Some units) text = if nat_lt problem_limit (length text) then record { status = TooLong; bytes = [] } else decided units text
+output_within (Some (Sample number)) text = usage
+output_within (Some (Decide units)) text =
+    if nat_lt problem_limit (length text) then record { status = TooLong; bytes = [] } else decided units text
 
 -- the output of words and a text
 unfoldable pub output_of : List (List ℕ) → List ℕ → Output
-output_of words text = output_within (budget_of words) text
+output_of words text = output_within (call_of words) text
 
-abbrev pub determined_within : Option ℕ → Option (List ℕ) → Option Output
+abbrev pub determined_within : Option Call → Option (List ℕ) → Option Output
 determined_within None told = Some usage
-determined_within (Some units) told = option_map (output_within (Some units)) told
+determined_within (Some (Sample number)) told = Some usage
+determined_within (Some (Decide units)) told = option_map (output_within (Some (Decide units))) told
 
 -- the output where it is determined: the words need no text, or the text is told
 unfoldable pub determined_output : List (List ℕ) → Option (List ℕ) → Option Output
-determined_output words told = determined_within (budget_of words) told
+determined_output words told = determined_within (call_of words) told
 
 -- each beginning of the bytes states only verdicts that hold
 abbrev pub HoldThroughout : List ℕ → Type 0

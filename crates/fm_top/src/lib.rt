@@ -1,13 +1,22 @@
 // The top call: words, a source and a sink in, a status out. Everything that the program promises stands on its contract.
 #![tactic(auto)]
 
+mod call;
 mod deciding;
+#[cfg(test)]
+mod ext_tests;
+#[cfg(test)]
+mod limit_tests;
 #[cfg(test)]
 mod query_tests;
 mod reply;
+#[cfg(test)]
+mod resolution_tests;
 mod running;
 #[cfg(test)]
 mod tests;
+#[cfg(test)]
+mod word_tests;
 mod words;
 
 pub use running::run;

@@ -5,13 +5,13 @@ use std::alloc::Global;
 use std::test::Fail;
 
 #[derive(Clone, Copy)]
-struct Row {
-    words: &'static [&'static str],
-    text: &'static [u8],
-    failing_reads: &'static [u64],
-    failing_writes: &'static [u64],
-    status: Status,
-    written: &'static [u8],
+pub struct Row {
+    pub words: &'static [&'static str],
+    pub text: &'static [u8],
+    pub failing_reads: &'static [u64],
+    pub failing_writes: &'static [u64],
+    pub status: Status,
+    pub written: &'static [u8],
 }
 
 const ROWS: [Row; 44] = [
@@ -53,7 +53,7 @@ const ROWS: [Row; 44] = [
         failing_reads: &[],
         failing_writes: &[],
         status: Status::Done,
-        written: b"report 0\nring 3 x y\norder grevlex\nideal I = x*y\nquery 1 class 1 I 0 (x^2*y)\nanswer yes stage 0\ndatum I 1\npart 1 given 1 1 (x*y)\nd 1 1\npart 2 given 1 0\nd 2 2\npart 3 given 1 1 (1)\ntheta 0 3\npart 4 given 1 1 (x^2*y^2)\ntheta 1 4\ndone 1\nend report\n",
+        written: b"report 0\nring 3 x y\norder grevlex\nideal I = x*y\nquery 1 class 1 I 0 (x^2*y)\nanswer yes stage 0\ndatum I 1\npart 1 given 1 1 (x*y)\nd 1 1\npart 2 given 1 0\nd 2 2\npart 3 given 1 1 (1)\ntheta 0 3\npart 4 given 1 1 (x^2*y^2)\ntheta 1 4\nZ 3\nN 1\nU 4\nK 1 1\ndone 1\nend report\n",
     },
     Row {
         words: &["decide"],
@@ -61,7 +61,7 @@ const ROWS: [Row; 44] = [
         failing_reads: &[],
         failing_writes: &[],
         status: Status::Done,
-        written: b"report 0\nring 3 x y\norder grevlex\nideal I = x*y\nquery 1 class 1 I 0 (x)\nanswer no\ndatum I 1\npart 1 given 1 1 (x*y)\nd 1 1\npart 2 given 1 0\nd 2 2\npart 3 given 1 1 (1)\ntheta 0 3\npart 4 given 1 1 (x^2*y^2)\ntheta 1 4\ndone 1\nend report\n",
+        written: b"report 0\nring 3 x y\norder grevlex\nideal I = x*y\nquery 1 class 1 I 0 (x)\nanswer no\ndatum I 1\npart 1 given 1 1 (x*y)\nd 1 1\npart 2 given 1 0\nd 2 2\npart 3 given 1 1 (1)\ntheta 0 3\npart 4 given 1 1 (x^2*y^2)\ntheta 1 4\nZ 3\nN 1\nU 4\nK 1 1\ndone 1\nend report\n",
     },
     Row {
         words: &["decide"],
@@ -69,7 +69,7 @@ const ROWS: [Row; 44] = [
         failing_reads: &[],
         failing_writes: &[],
         status: Status::Done,
-        written: b"report 0\nring 2 x\norder grevlex\nideal I = x\nquery 1 class 1 I 1 (x)\nanswer no\ndatum I 1\npart 1 given 1 1 (x)\nd 1 1\npart 2 given 1 0\nd 2 2\npart 3 given 1 1 (1)\ntheta 0 3\ntheta 1 1\ndone 1\nquery 2 class 1 I 1 (x^2)\nanswer yes stage 1\ndatum I 1\npart 1 given 1 1 (x)\nd 1 1\npart 2 given 1 0\nd 2 2\npart 3 given 1 1 (1)\ntheta 0 3\ntheta 1 1\ndone 2\nend report\n",
+        written: b"report 0\nring 2 x\norder grevlex\nideal I = x\nquery 1 class 1 I 1 (x)\nanswer no\ndatum I 1\npart 1 given 1 1 (x)\nd 1 1\npart 2 given 1 0\nd 2 2\npart 3 given 1 1 (1)\ntheta 0 3\ntheta 1 1\nZ 3\nN 1\nU 1\nK 1 1\ndone 1\nquery 2 class 1 I 1 (x^2)\nanswer yes stage 1\ndatum I 1\npart 1 given 1 1 (x)\nd 1 1\npart 2 given 1 0\nd 2 2\npart 3 given 1 1 (1)\ntheta 0 3\ntheta 1 1\nZ 3\nN 1\nU 1\nK 1 1\ndone 2\nend report\n",
     },
     Row {
         words: &["decide"],
@@ -77,7 +77,7 @@ const ROWS: [Row; 44] = [
         failing_reads: &[],
         failing_writes: &[],
         status: Status::Unanswered,
-        written: b"report 0\nring 13 x\norder grevlex\nideal I = x\nquery 1 class 1 I 5 (1)\nanswer no\ndatum I 1\npart 1 given 1 1 (x)\nd 1 1\npart 2 given 1 0\nd 2 2\npart 3 given 1 1 (1)\ntheta 0 3\npart 4 given 1 1 (x^12)\ntheta 1 4\ndone 1\nquery 2 class 1 I 7 (1)\nunanswered exponents stage 0\ndone 2\nend report\n",
+        written: b"report 0\nring 13 x\norder grevlex\nideal I = x\nquery 1 class 1 I 5 (1)\nanswer no\ndatum I 1\npart 1 given 1 1 (x)\nd 1 1\npart 2 given 1 0\nd 2 2\npart 3 given 1 1 (1)\ntheta 0 3\npart 4 given 1 1 (x^12)\ntheta 1 4\nZ 3\nN 1\nU 4\nK 1 1\ndone 1\nquery 2 class 1 I 7 (1)\nunanswered exponents stage 0\ndone 2\nend report\n",
     },
     Row {
         words: &["decide", "--budget", "1"],
@@ -93,7 +93,7 @@ const ROWS: [Row; 44] = [
         failing_reads: &[],
         failing_writes: &[],
         status: Status::Unanswered,
-        written: b"report 0\nring 3 x y\norder grevlex\nideal I = x*y\nquery 1 class 1 I 0 (x^2*y)\nunanswered budget stage 0\ndone 1\nend report\n",
+        written: b"report 0\nring 3 x y\norder grevlex\nideal I = x*y\nquery 1 class 1 I 0 (x^2*y)\nunanswered budget lift 1\ndone 1\nend report\n",
     },
     Row {
         words: &["decide", "--budget", "3"],
@@ -101,7 +101,7 @@ const ROWS: [Row; 44] = [
         failing_reads: &[],
         failing_writes: &[],
         status: Status::Unanswered,
-        written: b"report 0\nring 3 x y\norder grevlex\nideal I = x*y\nquery 1 class 1 I 0 (x^2*y)\nunanswered budget stage 0\ndone 1\nend report\n",
+        written: b"report 0\nring 3 x y\norder grevlex\nideal I = x*y\nquery 1 class 1 I 0 (x^2*y)\nunanswered budget cocycles\ndone 1\nend report\n",
     },
     Row {
         words: &["decide", "--budget", "4000000"],
@@ -109,7 +109,7 @@ const ROWS: [Row; 44] = [
         failing_reads: &[],
         failing_writes: &[],
         status: Status::Done,
-        written: b"report 0\nring 2 x\norder lex\nideal Z = 0\nideal I = x\nquery 1 class 1 I 3 (x^8)\nanswer yes stage 3\ndatum I 1\npart 1 given 1 1 (x)\nd 1 1\npart 2 given 1 0\nd 2 2\npart 3 given 1 1 (1)\ntheta 0 3\ntheta 1 1\ndone 1\nquery 2 class 1 I 0 (0)\nanswer yes stage 0\ndatum I 1\npart 1 given 1 1 (x)\nd 1 1\npart 2 given 1 0\nd 2 2\npart 3 given 1 1 (1)\ntheta 0 3\ntheta 1 1\ndone 2\nend report\n",
+        written: b"report 0\nring 2 x\norder lex\nideal Z = 0\nideal I = x\nquery 1 class 1 I 3 (x^8)\nanswer yes stage 3\ndatum I 1\npart 1 given 1 1 (x)\nd 1 1\npart 2 given 1 0\nd 2 2\npart 3 given 1 1 (1)\ntheta 0 3\ntheta 1 1\nZ 3\nN 1\nU 1\nK 1 1\ndone 1\nquery 2 class 1 I 0 (0)\nanswer yes stage 0\ndatum I 1\npart 1 given 1 1 (x)\nd 1 1\npart 2 given 1 0\nd 2 2\npart 3 given 1 1 (1)\ntheta 0 3\ntheta 1 1\nZ 3\nN 1\nU 1\nK 1 1\ndone 2\nend report\n",
     },
     Row {
         words: &["decide"],
@@ -125,7 +125,7 @@ const ROWS: [Row; 44] = [
         failing_reads: &[],
         failing_writes: &[],
         status: Status::Done,
-        written: b"report 0\nring 31 x\norder grevlex\nideal I = x\nquery 1 class 1 I 0 (x)\nanswer yes stage 0\ndatum I 1\npart 1 given 1 1 (x)\nd 1 1\npart 2 given 1 0\nd 2 2\npart 3 given 1 1 (1)\ntheta 0 3\npart 4 given 1 1 (x^30)\ntheta 1 4\ndone 1\nend report\n",
+        written: b"report 0\nring 31 x\norder grevlex\nideal I = x\nquery 1 class 1 I 0 (x)\nanswer yes stage 0\ndatum I 1\npart 1 given 1 1 (x)\nd 1 1\npart 2 given 1 0\nd 2 2\npart 3 given 1 1 (1)\ntheta 0 3\npart 4 given 1 1 (x^30)\ntheta 1 4\nZ 3\nN 1\nU 4\nK 1 1\ndone 1\nend report\n",
     },
     Row {
         words: &["decide"],
@@ -249,7 +249,7 @@ const ROWS: [Row; 44] = [
     },
     Row {
         words: &["decide"],
-        text: b"ring 2 x\nideal I = x\nclass 1 I 0 (x)\nzero 1 I\nbogus",
+        text: b"ring 2 x\nideal I = x\nclass 1 I 0 (x)\nmap 1 I I\nbogus",
         failing_reads: &[],
         failing_writes: &[],
         status: Status::Problem,
@@ -377,22 +377,24 @@ fn words_of(alloc: Global, words: &[&str]) -> Result<Vec<String>, Fail> {
     Ok(all)
 }
 
+/// The status of a run on the words and the text of a row, and what the sink took.
+pub fn outcome(alloc: Global, row: &Row) -> Result<(Status, MemorySink), Fail> {
+    let words = words_of(alloc, row.words)?;
+    let mut source = MemorySource::new(
+        row.text.to_vec(alloc)?,
+        1000,
+        row.failing_reads.to_vec(alloc)?,
+    );
+    let mut sink = MemorySink::new(alloc, 4000, 16, row.failing_writes.to_vec(alloc)?)?;
+    let status = run(alloc, &words, &mut source, &mut sink);
+    Ok((status, sink))
+}
+
 #[test]
 fn answers_words_and_texts(rt: HostRuntime) -> Result<(), Fail> {
-    for row in ROWS {
-        let words = words_of(rt.alloc(), row.words)?;
-        let mut source = MemorySource::new(
-            row.text.to_vec(rt.alloc())?,
-            1000,
-            row.failing_reads.to_vec(rt.alloc())?,
-        );
-        let mut sink = MemorySink::new(
-            rt.alloc(),
-            4000,
-            16,
-            row.failing_writes.to_vec(rt.alloc())?,
-        )?;
-        assert_eq!(rt; run(rt.alloc(), &words, &mut source, &mut sink), row.status);
+    for row in &ROWS {
+        let (status, sink) = outcome(rt.alloc(), row)?;
+        assert_eq!(rt; status, row.status);
         assert_eq!(rt; sink.taken(), row.written);
     }
     Ok(())

@@ -1,5 +1,5 @@
 // The laws of reports.
-ghost use Rattle.std.specs.Prelude.{List, [], false, length, nat_eq, not, true, ◌++◌, ◌∷◌, ◌≡◌, ◌≤◌};
+ghost use Rattle.std.specs.Prelude.{List, Option, [], false, length, nat_eq, not, true, ◌++◌, ◌∷◌, ◌≡◌, ◌≤◌};
 ghost use Rattle.std.specs.List.{list_all};
 ghost use Rattle.fm_words.specs.Parts.{Bytes};
 ghost use Rattle.fm_words.specs.Words.{words};
@@ -7,7 +7,8 @@ ghost use Rattle.fm_problem.specs.declared.problem.Problem.{Problem};
 ghost use Rattle.fm_report.specs.Verdicts.{Stated};
 ghost use Rattle.fm_report.specs.Reading.{rests_on, statements};
 ghost use Rattle.fm_report.specs.Answered.{answers_of};
-ghost use Rattle.fm_report.specs.Holding.{AllHold, IsHeld, VerdictsHold};
+ghost use Rattle.fm_report.specs.Holding.{AllHold, IsHeld, VerdictsHold, VerdictsHoldSince};
+ghost use Rattle.fm_report.specs.Choices.{VerdictsHoldForEveryChoice, VerdictsHoldForEveryChoiceSince};
 ghost use Rattle.fm_report.specs.Reports.{IsWritable, QueryReport, report_says, report_text};
 
 /// A written report states what its queries say, in order, and nothing else.
@@ -47,4 +48,12 @@ pub fn each_answer_is_stated()
 /// Where all holds that bytes state, each thing that they state holds.
 pub fn each_verdict_holds()
     ensures { (bytes : Bytes) → VerdictsHold bytes → (front back : List Stated) (s : Stated) → statements bytes ≡ front ++ s ∷ back → IsHeld s }
+{}
+
+/// Verdicts that hold along the matrices that are printed hold along every choice: for all resolutions through the degree of the same ideals, all
+/// their Frobenius lifts and all lifts of the identity, whether the limit is zero, whether it is after inverting f, what its support ideal is, and
+/// what a map of limits does; and a class is zero exactly where the class is to which a lift of the identity carries it.
+pub fn verdicts_hold_for_every_choice()
+    ensures text { (bytes : Bytes) → VerdictsHold bytes → VerdictsHoldForEveryChoice bytes }
+    ensures growth { (old new : Option Bytes) → VerdictsHoldSince old new → VerdictsHoldForEveryChoiceSince old new }
 {}

@@ -15,11 +15,11 @@ push_block-requires-clause-query c =
 
 pub queries-preserved : goal.queries-preserved
 queries-preserved c =
-    let done = c.is_answer-answered.result in
+    let done = c.is_settled-answered.result in
     let both : c.if-all.all ≡ (c.queries.all && done) = elim c.if-all.branch [
       | then-all w ↦ w.all-is ∙ and_true c.queries.all done w.if-all.true
       | else-all w ↦ w.all-is ∙ and_false c.queries.all done w.if-all.false
     ] in
     answered c.args.units c.args.problem.now c.in-Some.query.now c.in-Some.rest.now _ c.in_ok-answer.answer c.queries.number
     c.queries.out.items c.push_block.new.out.items _ c.queries.all done c.if-all.all _ c.in-Some.ensures.cases.0 c.in_ok-answer.ensures.value
-    c.in_ok-push_block.ensures c.is_answer-answered.ensures both c.queries.invariant
+    c.in_ok-push_block.ensures c.is_settled-answered.ensures both c.queries.invariant

@@ -1,9 +1,6 @@
-use Rattle.std.proofs.Common.{[], ◌∷◌, ◌++◌, ap, ◌∙◌}
 use Rattle.fm_cert.proofs.PartsNamed.{line_over}
-use Rattle.fm_answers.specs.Answers.{datum_line}
 use Rattle.fm_cert.specs.Naming.{naming_lines}
 use Rattle.fm_cert.specs.Parts.{naming_values}
-use Rattle.fm_cert.specs.Said.{line_values}
 use Rattle.fm_decide.proofs.BlockLines.{block_written, datum_is}
 use Rattle.fm_decide.proofs.blocks.push_block.Goals as goal
 

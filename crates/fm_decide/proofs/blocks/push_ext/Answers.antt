@@ -1,5 +1,4 @@
 use Rattle.std.proofs.Common.{ap, ◌∙◌}
-use Rattle.fm_syz.specs.GraphValues.{GraphValue}
 use Rattle.fm_syz.specs.GeneratorValues.{GeneratorsValue, PreimageValue}
 use Rattle.fm_decide.proofs.ExtNames.{ext_named}
 use Rattle.fm_decide.proofs.blocks.push_ext.Goals as goal

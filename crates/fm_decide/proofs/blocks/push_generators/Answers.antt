@@ -1,11 +1,8 @@
 use Rattle.std.proofs.Common.{ap, length, refl, sym, arith, ◌∙◌, ◌∷◌}
 use Rattle.fm_cert.specs.declared.grid.Slot.TheVariants.{D}
-use Rattle.fm_answers.specs.Printed.{grid_of}
-use Rattle.fm_cert.specs.Parts.{naming_values, slot_line}
 use Rattle.fm_decide.proofs.Differentials.{matrices_of}
 use Rattle.fm_decide.proofs.Names.{next_named}
 use Rattle.fm_decide.specs.declared.series.Series.TheVariants.{Differentials}
-use Rattle.fm_mat.specs.Matrices.{matrix_meaning}
 use Rattle.fm_decide.proofs.blocks.push_generators.Goals as goal
 
 pub generators-preserved : goal.generators-preserved

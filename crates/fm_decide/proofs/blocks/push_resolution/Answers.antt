@@ -1,13 +1,6 @@
-use Rattle.std.proofs.Common.{sym, ap, map, subst, ◌∙◌, ◌≡◌, ◌++◌, ◌∷◌, []}
-use Rattle.fm_cert.specs.Kinds as kinds
-use Rattle.fm_cert.specs.Lines.{Row}
-use Rattle.fm_cert.specs.Naming.{Naming, differentials}
-use Rattle.fm_cert.specs.Parts.{naming_values}
-use Rattle.fm_answers.specs.Printed.{grid_of, grids_of}
+use Rattle.std.proofs.Common.{sym, ap, subst, ◌∙◌}
 use Rattle.fm_lift.specs.Lifts.{AreMatricesOver}
-use Rattle.fm_mat.specs.Matrices.{matrix_meaning}
 use Rattle.fm_syz.specs.GraphValues.{GraphValue}
-use Rattle.fm_poly.specs.declared.ring.Ring.{Ring}
 use Rattle.fm_decide.proofs.Differentials.{matrices_of, next_over, named_all}
 use Rattle.fm_decide.proofs.blocks.push_resolution.Goals as goal
 

@@ -1,30 +1,41 @@
-use Rattle.std.proofs.Common.{refl, sym, ap, subst, All, ◌≢◌, [], length, ◌∙◌}
-use Rattle.fm_poly.specs.Polys.{PolyValue}
-use Rattle.fm_vec.specs.Components.{AreOver}
-use Rattle.fm_cert.proofs.LinesWritten.{over_variables}
-use Rattle.fm_decide.proofs.Loops.{nonzero_column}
-use Rattle.fm_decide.proofs.Plans.{built_parts, sound_generators, theta_over}
+use Rattle.std.proofs.Common.{subst, subst₂, Ok, Err, ◌<◌, ◌+◌, ◌^◌, length}
+use Rattle.fm_mat.specs.Matrices.{column_meaning}
+use Rattle.fm_plan.specs.Queries.{ask_class, plan}
+use Rattle.fm_problem.specs.declared.query.Query.TheVariants as queries
+use Rattle.fm_ext.specs.Exts.{ring_of}
+use Rattle.fm_queries.specs.Founds.{FollowsQuery, class_value, ended_by}
+use Rattle.fm_queries.specs.declared.class.Class.{Class}
+use Rattle.fm_answers.specs.Answers.{ideal_at}
+use Rattle.fm_decide.proofs.BaseReports.{class_answered, stage_fits}
+use Rattle.fm_decide.proofs.EndedReports.{whole_stopped}
 use Rattle.fm_decide.proofs.SoundIdeals.{are_over}
 use Rattle.fm_decide.proofs.class.answer_class.Goals as goal
 
-pub decide_class-requires-clause-vector : goal.decide_class-requires-clause-vector
-decide_class-requires-clause-vector c = are_over c.args.problem.now.ring _ c.requires.query.3
+pub decide_class-requires-clause-class : goal.decide_class-requires-clause-class
+decide_class-requires-clause-class c = are_over c.args.problem.now.ring _ c.requires.query.3
 
-pub decide_class-requires-clause-nonzero : goal.decide_class-requires-clause-nonzero
-decide_class-requires-clause-nonzero c =
+pub first_stage-requires : goal.first_stage-requires
+first_stage-requires c =
     let q = c.args.problem.now in
-    let ideal = sound_generators q c.args.ideal c.requires.query.1 c.requires.problem.ideals in
-    nonzero_column _ (ap length c.generators-generators.ensures.same ∙ (built_parts q c.args.i c.args.ideal c.args.e c.args.z.now c.requires.built).0)
-    (subst (All (λ (f : PolyValue). f.terms ≢ [])) (sym c.generators-generators.ensures.same) ideal.1)
+    let fs = column_meaning q.ring c.args.z.now in
+    let follows = subst₂ (λ gs u. FollowsQuery {X = Class} (class_value q.ring c.args.i (column_meaning q.ring gs) c.args.e fs) (Ok c.in-Ok.found) u c.decide_class.new.work (plan q.ring (ask_class c.args.i (column_meaning q.ring gs) c.args.e fs) u))
+    c.generators-generators.ensures.same c.new-work.ensures c.in-Ok.ensures.follows in
+    stage_fits q c.args.i c.args.ideal c.args.units _ c.args.e c.args.z.now c.in-Ok.found (ring_of c.in-Ok.found.base.ext) c.in-Ok.ensures.ring c.ranges.units.fits c.ranges.i.fits c.ranges.e.fits
+    (subst (λ gs. length gs + 1 < 2 ^ 32) c.generators-generators.ensures.same c.generators-generators.ensures.few) follows
 
-pub class_lines-requires-clause-generators : goal.class_lines-requires-clause-generators
-class_lines-requires-clause-generators c =
+pub returns-in_ok-lines-in-Ok-clause-value : goal.returns-in_ok-lines-in-Ok-clause-value
+returns-in_ok-lines-in-Ok-clause-value c =
     let q = c.args.problem.now in
-    subst (λ fs. Rattle.fm_cert.specs.Pieces.AreOverVariables q.ring.vars fs) (sym c.generators-generators.ensures.same)
-    (over_variables q.ring q.ring.vars _ refl (sound_generators q c.args.ideal c.requires.query.1 c.requires.problem.ideals).0)
+    let fs = column_meaning q.ring c.args.z.now in
+    let follows = subst₂ (λ gs u. FollowsQuery {X = Class} (class_value q.ring c.args.i (column_meaning q.ring gs) c.args.e fs) (Ok c.in-Ok.found) u c.decide_class.new.work (plan q.ring (ask_class c.args.i (column_meaning q.ring gs) c.args.e fs) u))
+    c.generators-generators.ensures.same c.new-work.ensures c.in-Ok.ensures.follows in
+    class_answered q c.args.i c.args.ideal c.args.units _ c.args.e c.args.z.now c.in-Ok.found (ring_of c.in-Ok.found.base.ext) c.in-Ok.ensures.ring _ _ c.first_stage.ensures c.in_ok-lines-in-Ok.ensures.value follows
 
-pub class_lines-requires-clause-theta : goal.class_lines-requires-clause-theta
-class_lines-requires-clause-theta c =
+pub returns-in-Err-clause-value : goal.returns-in-Err-clause-value
+returns-in-Err-clause-value c =
     let q = c.args.problem.now in
-    let parts = built_parts q c.args.i c.args.ideal c.args.e c.args.z.now c.requires.built in
-    theta_over q.ring c.generators-generators.result.now c.args.z.now c.args.e _ _ _ (ap length c.generators-generators.ensures.same ∙ parts.0) parts.1 c.in-Ok.ensures
+    let fs = column_meaning q.ring c.args.z.now in
+    let follows = subst₂ (λ gs u. FollowsQuery {X = Class} (class_value q.ring c.args.i (column_meaning q.ring gs) c.args.e fs) (Err c.in-Err.ended) u c.decide_class.new.work (plan q.ring (ask_class c.args.i (column_meaning q.ring gs) c.args.e fs) u))
+    c.generators-generators.ensures.same c.new-work.ensures c.in-Err.ensures.follows in
+    whole_stopped q (queries.Class c.args.i c.args.ideal c.args.e c.args.z.now) c.args.units _ (plan q.ring (ask_class c.args.i (ideal_at q c.args.ideal) c.args.e fs)) (class_value q.ring c.args.i (ideal_at q c.args.ideal) c.args.e fs)
+    ended_by c.in-Err.ended c.unanswered_answer.result follows c.unanswered_answer.ensures.value c.unanswered_answer.ensures.halts

@@ -1,4 +1,4 @@
-use Rattle.std.proofs.Common.{ap, ap₂, sym, subst₂, Err, ◌∙◌, length, ◌≡◌}
+use Rattle.std.proofs.Common.{ap, ap₂, sym, subst₂, Err, ◌∙◌, length}
 use Rattle.fm_cert.specs.Parts.{naming_values}
 use Rattle.fm_mat.specs.Matrices.{MatrixValue, column_meaning}
 use Rattle.fm_plan.specs.Base.{resolution_plan}

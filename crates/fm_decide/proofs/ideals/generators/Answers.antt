@@ -1,4 +1,4 @@
-use Rattle.std.proofs.Common.{All, get_or, length, slice_index_or, subst, sym, ap, ◌<◌, ◌∙◌}
+use Rattle.std.proofs.Common.{All, length, subst, sym, ◌<◌}
 use Rattle.std.proofs.lemmas.List.Elements.{All-get_or}
 use Rattle.fm_problem.specs.Sound.{IsIdealOf}
 use Rattle.fm_vec.specs.Components.{AreOver}

@@ -1,7 +1,7 @@
 use Rattle.std.proofs.Common.{Err, subst₂}
 use Rattle.fm_mat.specs.Matrices.{column_meaning}
 use Rattle.fm_poly.specs.Polys.{meaning}
-use Rattle.fm_plan.specs.Following.{FollowsPlan}
+use Rattle.fm_plan.specs.Following.{FollowsPlan, unanswered_by}
 use Rattle.fm_plan.specs.Queries.{ask_member, plan}
 use Rattle.fm_problem.specs.declared.query.Query.TheVariants as queries
 use Rattle.fm_resolve.specs.Memberships.{membership_value}
@@ -16,5 +16,5 @@ returns-in-Err-clause-value c =
     let f = meaning q.ring c.args.f.now.terms in
     let follows = subst₂ (λ gs u. FollowsPlan {X = Membership} (membership_value q.ring (column_meaning q.ring gs) f) (Err c.in-Err.stopped) u c.decide_member.new.work (plan q.ring (ask_member (column_meaning q.ring gs) f) u))
     c.generators-generators.ensures.same c.new-work.ensures c.in-Err.ensures.follows in
-    whole_stopped q (queries.Member c.args.ideal c.args.f.now) c.args.units _ (plan q.ring (ask_member (ideal_at q c.args.ideal) f)) (membership_value q.ring (ideal_at q c.args.ideal) f) c.in-Err.stopped c.stopped_answer.result
+    whole_stopped q (queries.Member c.args.ideal c.args.f.now) c.args.units _ (plan q.ring (ask_member (ideal_at q c.args.ideal) f)) (membership_value q.ring (ideal_at q c.args.ideal) f) unanswered_by c.in-Err.stopped c.stopped_answer.result
     follows c.stopped_answer.ensures.value c.stopped_answer.ensures.halts

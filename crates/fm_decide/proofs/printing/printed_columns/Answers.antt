@@ -1,8 +1,7 @@
-use Rattle.std.proofs.Common.{ap, subst, sym, ◌∙◌}
-use Rattle.fm_vec.specs.Components.{AreOver}
+use Rattle.std.proofs.Common.{ap, ◌∙◌}
 use Rattle.fm_answers.specs.Printed.{printed_vector}
 use Rattle.fm_mat.specs.Matrices.{column_meaning}
-use Rattle.fm_decide.proofs.Copies.{column_printed, first_over}
+use Rattle.fm_decide.proofs.Copies.{column_printed}
 use Rattle.fm_decide.proofs.printing.printed_columns.Goals as goal
 
 pub columns-preserved : goal.columns-preserved

@@ -12,11 +12,11 @@ use Rattle.fm_syz.specs.GraphValues.{GraphValue, graph_meaning}
 use Rattle.fm_plan.specs.Queries.{over_identity}
 use Rattle.fm_plan.specs.Tasks.{Unanswered}
 use Rattle.fm_plan.specs.Following.{unanswered_by}
-use Rattle.fm_lift.specs.Lifts.{AreAligned, AreGraphs, after_the_first, graphs_meaning, matrices_meaning}
+use Rattle.fm_lift.specs.Lifts.{AreAligned, AreGraphs, AreMatricesOver, after_the_first, graphs_meaning, matrices_meaning}
 use Rattle.fm_run.proofs.Parts.{failed}
 use Rattle.fm_lift.proofs.Calls.{plan_wants, told_ok, told_memory}
 use Rattle.fm_lift.proofs.Chains.{Rest, chained_spends, begun, more, stops, rest_left}
-use Rattle.fm_lift.proofs.LiftChains.{Begins, still_begins, dropped, ends}
+use Rattle.fm_lift.proofs.LiftChains.{Begins, still_begins, dropped, ends, over_more}
 use Rattle.fm_lift.proofs.IdentityChains.{pairs, identity_step, identity_spends, identity_chained, identity_told}
 use Rattle.fm_lift.proofs.identity.over_identity.Goals as goal
 
@@ -49,6 +49,7 @@ loop-k-init c =
     let empty : matrices_meaning r c.new-lambdas.result.items ≡ [] = ap (matrices_meaning r) c.new-lambdas.ensures.items in
     record {
       ring = ring;
+      rings = subst (AreMatricesOver r) (sym c.new-lambdas.ensures.items) tt;
       row = subst₂ (λ m n. AreAligned r m n ds gs) (sym rows) (sym count) c.requires.row;
       first = subst (λ ms. Begins unit (ms ++ matrix_meaning r lambda ∷ [])) (sym empty) (ap (λ m. m ∷ []) value);
       run = subst (λ ms. Rest (identity_step r) ms (matrix_meaning r lambda) 1 (pairs r ds gs) units all) (sym empty)
@@ -114,6 +115,7 @@ loop-k-preserved c =
     c.next_lambda.result (Ok next) c.loop-k.work c.next_lambda.new.work c.in_ok-lambda-2.ensures c.next_lambda.ensures.follows in
     record {
       ring = ring ∙ row.2;
+      rings = subst (AreMatricesOver r) (sym kept) (over_more r c.loop-k.lambdas.items L h.rings h.ring);
       row = subst (λ i. AreAligned r next.rows (length next.columns) (drop i ds) (drop i gs)) index
           (subst₂ (λ m n. AreAligned r m n (drop (suc k) ds) (drop (suc k) gs)) (sym rows) (sym count) row.4);
       first = subst (λ ms. Begins unit (ms ++ matrix_meaning r next ∷ [])) (sym grown) (still_begins unit (done ++ T ∷ []) (matrix_meaning r next ∷ []) h.first);
@@ -148,6 +150,15 @@ returns-clause-first c =
     let kept : c.keep.new.matrices.items ≡ c.loop-k.lambdas.items ++ L ∷ [] =
     subst (λ x. OnOk x (c.keep.new.matrices.items ≡ c.loop-k.lambdas.items ++ L ∷ [])) (told_ok c.lambda_task-2.result c.keep.result _ c.in_ok-in_task.ensures) c.keep.ensures.items in
     subst (Begins (matrix_unit r.prime r.vars 1)) (sym (ap (matrices_meaning r) kept ∙ map-append (matrix_meaning r) c.loop-k.lambdas.items (L ∷ []))) c.loop-k.invariant.first
+
+pub returns-clause-rings : goal.returns-clause-rings
+returns-clause-rings c =
+    let r = c.args.ring in
+    let h = c.loop-k.invariant in
+    let L = c.loop-k.lambda in
+    let kept : c.keep.new.matrices.items ≡ c.loop-k.lambdas.items ++ L ∷ [] =
+    subst (λ x. OnOk x (c.keep.new.matrices.items ≡ c.loop-k.lambdas.items ++ L ∷ [])) (told_ok c.lambda_task-2.result c.keep.result _ c.in_ok-in_task.ensures) c.keep.ensures.items in
+    subst (AreMatricesOver r) (sym kept) (over_more r c.loop-k.lambdas.items L h.rings h.ring)
 
 pub next_lambda-requires : goal.next_lambda-requires
 next_lambda-requires c =

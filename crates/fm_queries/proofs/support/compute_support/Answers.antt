@@ -41,3 +41,8 @@ returns-clause-follows c =
     let ring : (stable_graph b).matrix.ring ≡ r = stable_ring b c.stable_kernel.ensures.base ∙ c.in_ok-base.ensures.ring in
     support_ends r c.args.degree (column_meaning r c.args.generators.now) c.args.work.now c.compute_base.new.work c.annihilator.new.work b c.in_ok-base.ensures.follows c.in_ok-annihilator.annihilator
     (annihilator_told r (stable_graph b) c.stable_kernel.result.now c.stable_kernel.ensures.same ring c.compute_base.new.work c.annihilator.new.work (λ (P : PreimageValue). P) (Ok c.in_ok-annihilator.annihilator) c.in_ok-annihilator.ensures.follows)
+
+pub returns-clause-row : goal.returns-clause-row
+returns-clause-row c =
+    let b = c.in_ok-base.base in
+    c.in_ok-annihilator.ensures.ring ∙ ap (λ (g : GraphValue). g.matrix.ring) c.stable_kernel.ensures.same ∙ stable_ring b c.stable_kernel.ensures.base ∙ c.in_ok-base.ensures.ring

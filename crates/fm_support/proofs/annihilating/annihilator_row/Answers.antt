@@ -51,3 +51,6 @@ returns-clause-generates c =
     let k = c.args.k.now.matrix in
     row_annihilates k.ring c.ring.result k c.matrix.result.now c.in_ok-unit.unit c.in_ok-blocks.blocks c.rows-g.result c.ring.ensures c.in_ok-unit.ensures.ring c.rows-g.ensures c.matrix.ensures.same refl c.in_ok-unit.ensures.value c.in_ok-blocks.ensures.value
     c.in_ok-row.row c.in_ok-row.ensures.ring c.in_ok-row.ensures.rows c.in_ok-unit.ensures.count c.generators-generators.ensures.generate c.in_ok-row.ensures.generates
+
+pub returns-clause-ring : goal.returns-clause-ring
+returns-clause-ring c = c.in_ok-row.ensures.ring ∙ c.in_ok-unit.ensures.ring ∙ c.ring.ensures

@@ -1,54 +1,55 @@
-use Rattle.std.proofs.Common.{◌≡◌, ◌∙◌, [], Err, ap, sym, refl, subst, ◌++◌, List, ℕ}
+use Rattle.std.proofs.Common.{◌≡◌, None, Option, Some, map, rules, string_bytes}
 use Rattle.std.specs.Io.KnownBytes.{Appends}
-use Rattle.std.proofs.KnownBytes.{Appends-nil}
-use Rattle.fm_base.specs.declared.status.Status.TheVariants.{TooLong}
 use Rattle.fm_base.specs.Parts.{AppendsPrefix}
-use Rattle.fm_top.specs.Output.{HoldThroughout}
-use Rattle.fm_top.proofs.Outputs.{unread_determined, beyond_determined, reply_written, reply_begun}
-use Rattle.fm_top.proofs.Verdicts.{usage_holds, taken_holds, quiet_holds}
+use Rattle.fm_report.proofs.Choices.{since_for_every_choice}
 use Rattle.fm_report.proofs.Holding.{kept_holds}
+use Rattle.fm_top.specs.declared.call.Call.{Call}
+use Rattle.fm_top.specs.declared.call.Call.TheVariants.{Decide, Sample}
+use Rattle.fm_top.specs.Words.{call_of}
+use Rattle.fm_top.proofs.Outputs.{call_determined}
 use Rattle.fm_top.proofs.running.run.Goals as goal
 
-pub returns-in_default-clause-output : goal.returns-in_default-clause-output
-returns-in_default-clause-output g c =
-    λ plain. unread_determined (λ o. (c.write_reply.result ≡ o.status) × Appends _ _ o.bytes) _ _ (sym c.budget.ensures ∙ c.in_default.is) (c.write_reply.ensures.plain plain)
+pub returns-in-Ok-Some-Decide-clause-output : goal.returns-in-Ok-Some-Decide-clause-output
+returns-in-Ok-Some-Decide-clause-output g c =
+    let call : Some (Decide c.in-Ok-Some-Decide.units) ≡ call_of (map string_bytes c.args.words.now) = search rules in
+    λ plain. call_determined (λ o. (c.decide_source.result ≡ o.status) × Appends _ _ o.bytes) _ _ _ call (c.decide_source.ensures.output plain)
 
-pub returns-in_default-clause-prefix : goal.returns-in_default-clause-prefix
-returns-in_default-clause-prefix g c = unread_determined (λ o. AppendsPrefix _ _ o.bytes) _ _ (sym c.budget.ensures ∙ c.in_default.is) c.write_reply.ensures.prefix
+pub returns-in-Ok-Some-Decide-clause-prefix : goal.returns-in-Ok-Some-Decide-clause-prefix
+returns-in-Ok-Some-Decide-clause-prefix g c =
+    let call : Some (Decide c.in-Ok-Some-Decide.units) ≡ call_of (map string_bytes c.args.words.now) = search rules in
+    call_determined (λ o. AppendsPrefix _ _ o.bytes) _ _ _ call c.decide_source.ensures.prefix
 
-pub returns-in_default-clause-verdicts : goal.returns-in_default-clause-verdicts
-returns-in_default-clause-verdicts g c = taken_holds _ _ _ usage_holds c.write_reply.ensures.prefix
+pub returns-in-Ok-Some-Sample-clause-output : goal.returns-in-Ok-Some-Sample-clause-output
+returns-in-Ok-Some-Sample-clause-output g c =
+    let call : Some (Sample c.in-Ok-Some-Sample.field-0-0-0) ≡ call_of (map string_bytes c.args.words.now) = search rules in
+    λ plain. call_determined (λ o. (c.write_usage.result ≡ o.status) × Appends _ _ o.bytes) _ _ _ call (c.write_usage.ensures.plain plain)
 
-pub returns-in-Ok-decide-clause-output : goal.returns-in-Ok-decide-clause-output
-returns-in-Ok-decide-clause-output g c =
-    λ plain. reply_written _ _ _ _ _ _ _ _ (sym c.budget.ensures ∙ c.in-Some.is) c.in-Ok.ensures.all c.in-Ok.ensures.within c.deref.ensures.value c.in-Ok-decide.ensures.status c.in-Ok-decide.ensures.bytes
-    c.deref-in-Ok-decide.ensures.value _ _ _ (c.write_reply-in-Ok-decide.ensures.plain plain)
+pub returns-in-Ok-Some-Sample-clause-prefix : goal.returns-in-Ok-Some-Sample-clause-prefix
+returns-in-Ok-Some-Sample-clause-prefix g c =
+    let call : Some (Sample c.in-Ok-Some-Sample.field-0-0-0) ≡ call_of (map string_bytes c.args.words.now) = search rules in
+    call_determined (λ o. AppendsPrefix _ _ o.bytes) _ _ _ call c.write_usage.ensures.prefix
 
-pub returns-in-Ok-decide-clause-prefix : goal.returns-in-Ok-decide-clause-prefix
-returns-in-Ok-decide-clause-prefix g c =
-    reply_begun _ _ _ _ _ _ _ _ (sym c.budget.ensures ∙ c.in-Some.is) c.in-Ok.ensures.all c.in-Ok.ensures.within c.deref.ensures.value c.in-Ok-decide.ensures.status c.in-Ok-decide.ensures.bytes
-    c.deref-in-Ok-decide.ensures.value _ _ c.write_reply-in-Ok-decide.ensures.prefix
+pub returns-in-Ok-None-clause-output : goal.returns-in-Ok-None-clause-output
+returns-in-Ok-None-clause-output g c =
+    let call : ◌≡◌ {A = Option Call} None (call_of (map string_bytes c.args.words.now)) = search rules in
+    λ plain. call_determined (λ o. (c.write_usage-in-Ok-None.result ≡ o.status) × Appends _ _ o.bytes) _ _ _ call (c.write_usage-in-Ok-None.ensures.plain plain)
 
-pub returns-in-Ok-decide-clause-verdicts : goal.returns-in-Ok-decide-clause-verdicts
-returns-in-Ok-decide-clause-verdicts g c =
-    taken_holds _ _ _ (subst HoldThroughout (sym c.deref-in-Ok-decide.ensures.value) c.in-Ok-decide.ensures.verdicts) c.write_reply-in-Ok-decide.ensures.prefix
+pub returns-in-Ok-None-clause-prefix : goal.returns-in-Ok-None-clause-prefix
+returns-in-Ok-None-clause-prefix g c =
+    let call : ◌≡◌ {A = Option Call} None (call_of (map string_bytes c.args.words.now)) = search rules in
+    call_determined (λ o. AppendsPrefix _ _ o.bytes) _ _ _ call c.write_usage-in-Ok-None.ensures.prefix
 
-pub returns-in-Ok-clause-verdicts : goal.returns-in-Ok-clause-verdicts
-returns-in-Ok-clause-verdicts g c = kept_holds _
+pub returns-in-Err-clause-verdicts : goal.returns-in-Err-clause-verdicts
+returns-in-Err-clause-verdicts g c = kept_holds _
 
-pub returns-in-Err-ReadFault-clause-verdicts : goal.returns-in-Err-ReadFault-clause-verdicts
-returns-in-Err-ReadFault-clause-verdicts g c = kept_holds _
+pub returns-in-Ok-Some-Decide-clause-independent : goal.returns-in-Ok-Some-Decide-clause-independent
+returns-in-Ok-Some-Decide-clause-independent g c = since_for_every_choice _ _ c.decide_source.ensures.verdicts
 
-pub returns-in-Err-TooLong-clause-output : goal.returns-in-Err-TooLong-clause-output
-returns-in-Err-TooLong-clause-output g c =
-    λ plain. beyond_determined (λ o. (TooLong ≡ o.status) × Appends _ _ o.bytes) _ _ _ _ (sym c.budget.ensures ∙ c.in-Some.is) (c.in-Err-TooLong.ensures.long (ap Err c.in-Err-TooLong.field-0-is)) (refl, Appends-nil _)
+pub returns-in-Ok-Some-Sample-clause-independent : goal.returns-in-Ok-Some-Sample-clause-independent
+returns-in-Ok-Some-Sample-clause-independent g c = since_for_every_choice _ _ c.write_usage.ensures.verdicts
 
-pub returns-in-Err-TooLong-clause-prefix : goal.returns-in-Err-TooLong-clause-prefix
-returns-in-Err-TooLong-clause-prefix g c =
-    beyond_determined (λ o. AppendsPrefix _ _ o.bytes) _ _ _ _ (sym c.budget.ensures ∙ c.in-Some.is) (c.in-Err-TooLong.ensures.long (ap Err c.in-Err-TooLong.field-0-is)) ([], [], refl, Appends-nil _)
+pub returns-in-Ok-None-clause-independent : goal.returns-in-Ok-None-clause-independent
+returns-in-Ok-None-clause-independent g c = since_for_every_choice _ _ c.write_usage-in-Ok-None.ensures.verdicts
 
-pub returns-in-Err-TooLong-clause-verdicts : goal.returns-in-Err-TooLong-clause-verdicts
-returns-in-Err-TooLong-clause-verdicts g c = kept_holds _
-
-pub returns-clause-verdicts : goal.returns-clause-verdicts
-returns-clause-verdicts g c = kept_holds _
+pub returns-in-Err-clause-independent : goal.returns-in-Err-clause-independent
+returns-in-Err-clause-independent g c = since_for_every_choice _ _ (kept_holds _)

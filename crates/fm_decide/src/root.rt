@@ -1,0 +1,44 @@
+// The answers to queries on roots.
+ghost use Rattle.std.specs.Prelude.{IfOk, ◌≡◌};
+ghost use Rattle.fm_answers.specs.Answers.{query_report};
+ghost use Rattle.fm_decide.specs.Given.{IsAnswerOver, answer_report};
+ghost use Rattle.fm_problem.specs.Sound.{IsProblem, IsQueryOf};
+ghost use Rattle.fm_problem.specs.declared.query.Query.TheVariants as queries;
+
+use crate::blocks::base_lines;
+use crate::ended::{Answer, stopped_answer};
+use crate::ideals::generators;
+use fm_cert::End;
+use fm_problem::Problem;
+use fm_queries::compute_base;
+use fm_run::{Side, Work};
+use std::alloc::{AllocError, Global};
+
+/// The answer to the query on a root in degree i.
+pub(crate) fn answer_root(
+    alloc: Global,
+    problem: &Problem,
+    units: u32,
+    i: u8,
+    ideal: u32,
+) -> Result<Answer, AllocError>
+    requires problem { IsProblem problem.now }
+    requires query { IsQueryOf problem.now (queries.Root i ideal) }
+    ensures value { IfOk result (λ a. answer_report problem.now (queries.Root i ideal) a
+        ≡ query_report units problem.now (queries.Root i ideal)) }
+    ensures over { IfOk result (IsAnswerOver problem.now.ring.vars) }
+{
+    let generators = generators(problem, ideal);
+    let mut work = Work::new(units);
+    match compute_base(alloc, Side::Alone, problem.ring, generators, i, &mut work) {
+        Ok(base) => {
+            let lines = base_lines(alloc, problem, ideal, i, &base)?;
+            let end = End::Root {
+                rank: u64::from(base.ext().cocycles().generators().found().cols()),
+                stable: base.chain().stable() as u64,
+            };
+            Ok(Answer { end, lines })
+        }
+        Err(stopped) => stopped_answer(alloc, stopped),
+    }
+}

@@ -1,0 +1,13 @@
+pub mod Options
+pub mod Goods
+pub mod Resolving
+pub mod Lifting
+pub mod Chains
+pub mod Verdicts
+pub mod Classes
+pub mod Facts
+pub mod Claimed
+pub mod Placed
+pub mod Steps
+pub mod Texts
+pub mod SmallTexts

@@ -1,0 +1,139 @@
+-- Which line stands in which place, and what it claims: the tables of certificates.
+use Rattle.std.specs.Prelude.{ℕ, zero, suc, ◌&&◌, if◌then◌else◌, nat_eq, nat_lt, nat_le, List, [], ◌∷◌, ◌++◌, length, Option, Some, None, option_map}
+use Rattle.fm_words.specs.Options.{◌>>=◌, where_so}
+use Rattle.fm_algebra.specs.PolynomialMatrices.{matrix_transpose, matrix_unit, matrix_zero}
+use Rattle.fm_poly.specs.Polys.{PolyValue}
+use Rattle.fm_poly.specs.declared.ring.Ring.{Ring}
+use Rattle.fm_graphs.specs.Graphs.{MatrixOf}
+use Rattle.fm_cert.specs.Fields.{Values}
+use Rattle.fm_cert.specs.Kinds.{Kind, row}
+use Rattle.fm_cert.specs.Kinds as kinds
+use Rattle.fm_report.specs.Parts.{Part, given, twist, flip, times}
+use Rattle.fm_report.specs.Sheets.{Block, numbered}
+use Rattle.fm_answers.specs.Printed.{grid_of}
+use Rattle.fm_parts.specs.Shapes.{rows_of, columns_of}
+use Rattle.fm_parts.specs.Replays.{are_numbers}
+use Rattle.fm_parts.specs.Conditions.{Log, Condition, equal, follows, kernel, preimage, outside, agrees, never}
+use Rattle.fm_judge.specs.Goals.{Aim, Goal, membership, dying, living, told_rank, told_generators, told_relations, told_moves}
+use Rattle.fm_judge.specs.Places.{Place, differential, exactness, lift, cocycles, relations, morphism, chain, turn, whole, proper, coordinates, lives, dies, lives_on, ideal_row, cofactors, foreign, end, after_exact, after_differential, after_lift, after_morphism, after_stable, after_coordinates, after_row}
+
+-- What a line claims: its conditions in their order, or None where a part, a log, a member or a column doesn't exist; and the place after it.
+pub record Claim : Type 0 where
+  pub conditions : Option (List Condition)
+  pub next : Place
+
+-- ---- matrices that the tables speak of
+
+abbrev pub printed_part : (r : Ring) → MatrixOf r → Part
+printed_part r A = given (grid_of r A).rows (grid_of r A).columns
+
+abbrev pub unit_part : Ring → ℕ → Part
+unit_part r n = printed_part r (matrix_unit r.prime r.vars n)
+
+abbrev pub row_part : List PolyValue → Part
+row_part fs = flip (given (length fs) (fs ∷ []))
+
+abbrev pub column_part : List PolyValue → Part
+column_part z = given (length z) (z ∷ [])
+
+-- d_i as a map to cochains; of d_0, which has no rows, it has no columns
+abbrev pub codifferential : Ring → List Part → ℕ → Option Part
+codifferential r ds zero = Some (printed_part r (matrix_transpose r.prime r.vars (matrix_zero r.prime r.vars 0 1)))
+codifferential r ds (suc i) = option_map flip (numbered ds (suc i))
+
+-- a number of the answer, where it tells it
+abbrev pub agreeing : Option ℕ → ℕ → List Condition
+agreeing None n = []
+agreeing (Some k) n = agrees k n ∷ []
+
+-- the stage and the entries of the class
+abbrev pub stage_of : Aim → ℕ
+stage_of (dying e z moves) = e
+stage_of (living e z) = e
+stage_of aim = 0
+
+abbrev pub class_of : Aim → List PolyValue
+class_of (dying e z moves) = z
+class_of (living e z) = z
+class_of aim = []
+
+abbrev pub member_of : Aim → List PolyValue
+member_of (membership f inside) = f ∷ []
+member_of aim = []
+
+module _ (r : Ring) (g : Goal) (b : Block) (parts : List Part) (logs : List Log) where
+  -- the line stands in the place, and claims these conditions
+  abbrev pub claims : Option (List Condition) → Place → Option Claim
+  claims cs next = Some (record { conditions = cs; next = next })
+
+  -- what is claimed where the number is the one that is next
+  abbrev pub numbered_so : (wanted n : ℕ) → Option (List Condition) → Place → Option Claim
+  numbered_so wanted n cs next = where_so (nat_eq n wanted) (claims cs next)
+
+  -- what is claimed of a part, where it exists
+  abbrev pub of_part : Option Part → (Part → Option Claim) → Option Claim
+  of_part None says = claims None end
+  of_part (Some a) says = says a
+
+  -- PREIMAGE, with the numbers of a log, of X and of W
+  abbrev pub generated : (Log → (X W : Part) → Condition) → (n x w : ℕ) → List Condition → Option (List Condition)
+  generated says n x w more = numbered logs n >>= λ log. numbered parts x >>= λ X. option_map (λ W. says log X W ∷ more) (numbered parts w)
+
+  -- OUT, with the number of a log, the number of a column of V, and the numbers of members
+  abbrev pub excluded : (e : ℕ) (A V : Part) → (n c : ℕ) → List ℕ → Option (List Condition)
+  excluded e A V n c by =
+      numbered logs n >>= λ log. where_so (are_numbers log.members by && (nat_lt 0 c && nat_le c (columns_of V))) (Some (outside log e A V c by ∷ []))
+
+  abbrev pub kernel_at : ℕ → Option Part
+  kernel_at s = numbered b.kernels (suc s)
+
+  -- K_k at `lives k`, which has to come before the repeat
+  abbrev pub lives_before : (w : Part) (t k n : ℕ) → List ℕ → Option (List Condition)
+  lives_before w t k n by =
+      if nat_lt k t then (kernel_at k >>= λ K. excluded (stage_of g.aim) K w n 1 by)
+      else (kernel_at t >>= λ K. option_map (λ cs. never ∷ []) (excluded (stage_of g.aim) K w n 1 by))
+
+  abbrev pub on_differential : ℕ → Option (List Condition)
+  on_differential zero = option_map (λ d. equal d (row_part g.generators) ∷ agreeing (told_rank g.aim 0) 1 ++ agreeing (told_rank g.aim 1) (columns_of d)) (numbered b.differentials 1)
+  on_differential (suc j) =
+      numbered b.differentials (suc j) >>= λ d. option_map (λ next. follows d next ∷ agreeing (told_rank g.aim (suc (suc j))) (columns_of next)) (numbered b.differentials (suc (suc j)))
+
+  abbrev pub on_lift : ℕ → Option (List Condition)
+  on_lift zero = option_map (λ theta. equal theta (unit_part r 1) ∷ []) (numbered b.lift 1)
+  on_lift (suc j) =
+      numbered b.differentials (suc j) >>= λ d. numbered b.lift (suc j) >>= λ theta.
+      option_map (λ next. equal (times d next) (times theta (twist d 1)) ∷ []) (numbered b.lift (suc (suc j)))
+
+  -- The line of each place, and what it claims; None where another line stands there, or its number isn't the next.
+  unfoldable pub claim : Place → (kind : Kind) → Values (row kind) → Option Claim
+  claim (differential j) kinds.D (n, (k, u)) = numbered_so (suc j) n (on_differential j) (after_differential g (suc j))
+  claim (exactness j) kinds.Exact (i, (n, (x, (w, u)))) =
+      numbered_so (suc j) i (numbered b.differentials (suc j) >>= λ d. numbered b.differentials (suc (suc j)) >>= λ next. generated (λ log X W. kernel log d next X W) n x w []) (after_exact g (suc j))
+  claim (lift j) kinds.Theta (n, (k, u)) = numbered_so j n (on_lift j) (after_lift g (suc j))
+  claim cocycles kinds.Cocycles (k, (n, (x, (w, u)))) =
+      claims (numbered b.differentials (suc g.degree) >>= λ d. numbered b.cocycles 1 >>= λ Z.
+      generated (λ log X W. kernel log (flip d) Z X W) n x w (agreeing (told_generators g.aim) (columns_of Z))) relations
+  claim relations kinds.Relations (k, (n, (x, (w, u)))) =
+      claims (numbered b.cocycles 1 >>= λ Z. codifferential r b.differentials g.degree >>= λ d. kernel_at 0 >>= λ N.
+      generated (λ log X W. preimage log Z d N X W) n x w (agreeing (told_relations g.aim) (columns_of N))) morphism
+  claim morphism kinds.Morphism (k, u) =
+      claims (numbered b.cocycles 1 >>= λ Z. numbered b.lift (suc g.degree) >>= λ theta. option_map (λ U. equal (times (flip theta) Z) (times (twist Z 1) U) ∷ []) (numbered b.morphism 1))
+      (after_morphism g.aim)
+  claim (chain s) kinds.Chain (i, (k, (n, (x, (w, u))))) =
+      numbered_so (suc s) i (numbered b.morphism 1 >>= λ U. kernel_at s >>= λ K. kernel_at (suc s) >>= λ next. generated (λ log X W. preimage log U (twist K 1) next X W) n x w []) (turn s)
+  claim (turn s) kinds.Grows (i, (n, (c, (by, u)))) = numbered_so s i (kernel_at s >>= λ K. kernel_at (suc s) >>= λ next. excluded 0 K next n c by) (chain (suc s))
+  claim (turn s) kinds.Stable (i, (w, u)) =
+      numbered_so s i (kernel_at s >>= λ K. kernel_at (suc s) >>= λ next. option_map (λ W. equal next (times K W) ∷ agreeing (told_moves g.aim) s) (numbered parts w)) (after_stable g.aim s)
+  claim (whole t) kinds.Whole (w, u) = claims (kernel_at t >>= λ K. option_map (λ W. equal (times K W) (unit_part r (rows_of K)) ∷ []) (numbered parts w)) end
+  claim (proper t) kinds.Proper (n, (c, (by, u))) = claims (kernel_at t >>= λ K. excluded 0 K (unit_part r (rows_of K)) n c by) end
+  claim (coordinates t) kinds.Coordinates (k, u) =
+      of_part (numbered parts k) (λ w. claims (option_map (λ Z. equal (times (twist Z (stage_of g.aim)) w) (column_part (class_of g.aim)) ∷ []) (numbered b.cocycles 1)) (after_coordinates g.aim w t))
+  claim (lives w t k) kinds.Lives (i, (n, (by, u))) = numbered_so k i (lives_before w t k n by) (dies w t (suc k))
+  claim (dies w t m) kinds.Dies (i, (x, u)) =
+      numbered_so m i (kernel_at m >>= λ K. option_map (λ W. equal w (times (twist K (stage_of g.aim)) W) ∷ []) (numbered parts x)) end
+  claim (lives_on w t) kinds.Lives (i, (n, (by, u))) = numbered_so t i (kernel_at t >>= λ K. excluded (stage_of g.aim) K w n 1 by) end
+  claim ideal_row kinds.D (n, (k, u)) =
+      where_so (nat_eq n 1) (of_part (numbered parts k) (λ d. claims (Some (equal d (row_part g.generators) ∷ [])) (after_row g.aim d)))
+  claim (cofactors d) kinds.Cofactors (x, u) = claims (option_map (λ W. equal (times d W) (column_part (member_of g.aim)) ∷ []) (numbered parts x)) end
+  claim (foreign d) kinds.Foreign (n, (by, u)) = claims (excluded 0 d (column_part (member_of g.aim)) n 1 by) end
+  claim place kind values = None

@@ -1,0 +1,6 @@
+pub mod Goals
+pub mod Places
+pub mod Claims
+pub mod Tasks
+pub mod Judging
+pub mod Examples

@@ -1,0 +1,9 @@
+pub mod Results
+pub mod Reducing
+pub mod Replaying
+pub mod Wholes
+pub mod Shapes
+pub mod SameValues
+pub mod Held
+pub mod Outside
+pub mod Judged

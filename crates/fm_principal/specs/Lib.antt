@@ -1,2 +1,0 @@
-pub mod PrincipalQueries
-pub mod Plans

@@ -1,0 +1,10 @@
+// Calls of the program.
+
+/// What the words ask for.
+#[derive(Clone, Copy, Debug, PartialEq, Eq)]
+pub enum Call {
+    /// The answers to a problem, with this number of units of work for each query.
+    Decide(u32),
+    /// The summary of the problem that is drawn from this number.
+    Sample(u32),
+}
