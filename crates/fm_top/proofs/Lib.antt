@@ -2,3 +2,4 @@ pub mod CommandLine
 pub mod Outputs
 pub mod Verdicts
 pub mod Ideals
+pub mod Summaries

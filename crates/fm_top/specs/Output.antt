@@ -1,5 +1,5 @@
 -- What a run answers: a function of the words and the text.
-use Rattle.std.specs.Prelude.{ℕ, List, [], ◌∷◌, ◌++◌, ◌≡◌, length, Option, Some, None, Result, Ok, Err, codes, decimal, nat_lt, if◌then◌else◌}
+use Rattle.std.specs.Prelude.{ℕ, List, [], ◌∷◌, ◌++◌, ◌≡◌, length, Option, Some, None, Result, Ok, Err, codes, decimal, nat_eq, nat_lt, if◌then◌else◌}
 use Rattle.std.specs.Option.{option_map}
 use Rattle.fm_base.specs.declared.status.Status.{Status}
 use Rattle.fm_base.specs.declared.status.Status.TheVariants.{Done, Usage, Unanswered, Problem, TooLong}
@@ -10,7 +10,10 @@ use Rattle.fm_report.specs.Holding.{VerdictsHold}
 use Rattle.fm_answers.specs.Answers.{are_answered, query_reports, report_bytes}
 use Rattle.fm_top.specs.declared.call.Call.{Call}
 use Rattle.fm_top.specs.declared.call.Call.TheVariants.{Decide, Sample}
-use Rattle.fm_top.specs.Words.{call_of}
+use Rattle.fm_decide.specs.Counts.{counts_of}
+use Rattle.fm_decide.specs.declared.counts.Counts.{Counts}
+use Rattle.fm_sample.specs.Samples.{sample_problem}
+use Rattle.fm_top.specs.Words.{call_of, default_budget}
 
 -- a status and the bytes written
 pub record Output : Type 0 where
@@ -44,10 +47,24 @@ judged units (Err f) = faulted f
 unfoldable pub decided : ℕ → List ℕ → Output
 decided units text = judged units (problem_of text)
 
--- what a call gives on a text; no sample is drawn yet
+-- the line that counts how the queries of a sample end
+abbrev pub summary_line : (number queries : ℕ) → Counts → List ℕ
+summary_line number queries c =
+    codes "sample " ++ decimal number ++ (codes " queries " ++ decimal queries ++ (codes " yes " ++ decimal c.yes ++ (codes " no " ++ decimal c.no
+    ++ (codes " unanswered " ++ line_of (decimal c.unanswered)))))
+
+abbrev pub summed : ℕ → problems.Problem → Counts → Output
+summed number q c =
+    record { status = if nat_eq c.unanswered 0 then Done else Unanswered; bytes = summary_line number (length q.queries) c }
+
+-- the summary of the problem that is drawn from a number, each query of it with the default number of units
+unfoldable pub sampled : ℕ → Output
+sampled number = let q = sample_problem number in summed number q (counts_of (query_reports default_budget q q.queries))
+
+-- what a call gives on a text
 abbrev pub output_within : Option Call → List ℕ → Output
 output_within None text = usage
-output_within (Some (Sample number)) text = usage
+output_within (Some (Sample number)) text = sampled number
 output_within (Some (Decide units)) text =
     if nat_lt problem_limit (length text) then record { status = TooLong; bytes = [] } else decided units text
 
@@ -57,7 +74,7 @@ output_of words text = output_within (call_of words) text
 
 abbrev pub determined_within : Option Call → Option (List ℕ) → Option Output
 determined_within None told = Some usage
-determined_within (Some (Sample number)) told = Some usage
+determined_within (Some (Sample number)) told = Some (sampled number)
 determined_within (Some (Decide units)) told = option_map (output_within (Some (Decide units))) told
 
 -- the output where it is determined: the words need no text, or the text is told

@@ -111,3 +111,7 @@ is_decide (Some (Sample number)) = false
 -- a problem is read
 abbrev pub reads_problem : List Bytes → Bool
 reads_problem words = is_decide (call_of words)
+
+-- the words have the form of a call
+abbrev pub is_call : List Bytes → Bool
+is_call words = is_some (call_of words)

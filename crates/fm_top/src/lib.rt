@@ -2,6 +2,8 @@
 #![tactic(auto)]
 
 mod call;
+#[cfg(test)]
+mod count_tests;
 mod deciding;
 #[cfg(test)]
 mod ext_tests;
@@ -13,6 +15,7 @@ mod reply;
 #[cfg(test)]
 mod resolution_tests;
 mod running;
+mod sampling;
 #[cfg(test)]
 mod tests;
 #[cfg(test)]

@@ -5,13 +5,14 @@ ghost use Rattle.fm_base.specs.Causes.{Rose};
 ghost use Rattle.fm_base.specs.Parts.{AppendsPrefix, ConsumesAtMost};
 ghost use Rattle.fm_report.specs.Choices.{VerdictsHoldForEveryChoiceSince};
 ghost use Rattle.fm_report.specs.Holding.{VerdictsHoldSince};
-ghost use Rattle.fm_top.specs.Words.{reads_problem};
-ghost use Rattle.fm_top.specs.Output.{determined_output, determined_within, problem_limit, usage};
+ghost use Rattle.fm_top.specs.Words.{is_call, reads_problem};
+ghost use Rattle.fm_top.specs.Output.{determined_output, determined_within, problem_limit, sampled, usage};
 ghost use Rattle.fm_top.specs.Statuses.{IsPlain, IsQuiet};
 
 use crate::call::Call;
 use crate::deciding::decide;
 use crate::reply::write_reply;
+use crate::sampling::summary;
 use crate::words::call_of_words;
 use fm_base::{ReadError, Sink, Source, Status, read_all};
 use std::alloc::Global;
@@ -37,9 +38,9 @@ pub fn run<S: Source, K: Sink>(
     ensures quiet { IsQuiet result → Keeps (K.taken sink.old) (K.taken sink.new) }
 
     // the words alone tell whether the usage line is written, and no certificate is refused
-    ensures usage { reads_problem (map string_bytes words.now) ≡ false
+    ensures usage { is_call (map string_bytes words.now) ≡ false
         → (result ≡ Status.Usage) ⊎ ((result ≡ Status.WriteFault) ⊎ (result ≡ Status.Memory)) }
-    ensures no_usage { reads_problem (map string_bytes words.now) ≡ true → result ≢ Status.Usage }
+    ensures no_usage { is_call (map string_bytes words.now) ≡ true → result ≢ Status.Usage }
     ensures unrefused { result ≢ Status.Refused }
 
     // the headline: what the sink took states only verdicts that hold in the limit, however the run ends
@@ -61,9 +62,26 @@ pub fn run<S: Source, K: Sink>(
 {
     match call_of_words(alloc, words) {
         Ok(Some(Call::Decide(units))) => decide_source(alloc, units, source, sink),
-        // No sample is drawn yet.
-        Ok(Some(Call::Sample(_))) => write_usage(sink),
+        Ok(Some(Call::Sample(number))) => write_summary(alloc, number, sink),
         Ok(None) => write_usage(sink),
+        Err(_) => Status::Memory,
+    }
+}
+
+// Writes how the queries of a sample end.
+fn write_summary<K: Sink>(alloc: Global, number: u32, sink: &mut K) -> Status
+    ensures plain { IsPlain result → (result ≡ (sampled number).status) × Appends (K.taken sink.old) (K.taken sink.new) (sampled number).bytes }
+    ensures prefix { AppendsPrefix (K.taken sink.old) (K.taken sink.new) (sampled number).bytes }
+    ensures quiet { IsQuiet result → Keeps (K.taken sink.old) (K.taken sink.new) }
+    ensures no_usage { result ≢ Status.Usage }
+    ensures unrefused { result ≢ Status.Refused }
+    ensures read { result ≢ Status.ReadFault }
+    ensures verdicts { VerdictsHoldSince (K.taken sink.old) (K.taken sink.new) }
+    ensures write { result ≡ Status.WriteFault → Rose (K.faults sink.old) (K.faults sink.new) }
+    ensures later { K.faults sink.old ≤ K.faults sink.new }
+{
+    match summary(alloc, number) {
+        Ok(reply) => write_reply(sink, reply.status, &reply.bytes),
         Err(_) => Status::Memory,
     }
 }

@@ -14,7 +14,7 @@ pub struct Row {
     pub written: &'static [u8],
 }
 
-const ROWS: [Row; 44] = [
+const ROWS: [Row; 46] = [
     Row {
         words: &["decide", "--budget", "5"],
         text: b"ring 2 x y\nideal I = x, y\nmember I x\n",
@@ -326,6 +326,22 @@ const ROWS: [Row; 44] = [
         failing_writes: &[],
         status: Status::Usage,
         written: b"usage: fmod decide [--budget N] | check | sample N\n",
+    },
+    Row {
+        words: &["sample", "7"],
+        text: b"",
+        failing_reads: &[1],
+        failing_writes: &[],
+        status: Status::Done,
+        written: b"sample 7 queries 60 yes 35 no 25 unanswered 0\n",
+    },
+    Row {
+        words: &["sample", "007"],
+        text: b"",
+        failing_reads: &[1],
+        failing_writes: &[],
+        status: Status::Done,
+        written: b"sample 7 queries 60 yes 35 no 25 unanswered 0\n",
     },
     Row {
         words: &["decide", "--budget"],

@@ -10,7 +10,7 @@ use fm_words::{is_number, number};
 use std::alloc::{AllocError, Global};
 
 // The units of work for each query where the words name none, and the most that they may name.
-const DEFAULT_BUDGET: u32 = 200_000;
+pub const DEFAULT_BUDGET: u32 = 200_000;
 
 const LARGEST_BUDGET: u32 = 4_000_000;
 

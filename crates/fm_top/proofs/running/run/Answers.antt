@@ -21,23 +21,23 @@ returns-in-Ok-Some-Decide-clause-prefix g c =
 
 pub returns-in-Ok-Some-Sample-clause-output : goal.returns-in-Ok-Some-Sample-clause-output
 returns-in-Ok-Some-Sample-clause-output g c =
-    let call : Some (Sample c.in-Ok-Some-Sample.field-0-0-0) ≡ call_of (map string_bytes c.args.words.now) = search rules in
-    λ plain. call_determined (λ o. (c.write_usage.result ≡ o.status) × Appends _ _ o.bytes) _ _ _ call (c.write_usage.ensures.plain plain)
+    let call : Some (Sample c.in-Ok-Some-Sample.number) ≡ call_of (map string_bytes c.args.words.now) = search rules in
+    λ plain. call_determined (λ o. (c.write_summary.result ≡ o.status) × Appends _ _ o.bytes) _ _ _ call (c.write_summary.ensures.plain plain)
 
 pub returns-in-Ok-Some-Sample-clause-prefix : goal.returns-in-Ok-Some-Sample-clause-prefix
 returns-in-Ok-Some-Sample-clause-prefix g c =
-    let call : Some (Sample c.in-Ok-Some-Sample.field-0-0-0) ≡ call_of (map string_bytes c.args.words.now) = search rules in
-    call_determined (λ o. AppendsPrefix _ _ o.bytes) _ _ _ call c.write_usage.ensures.prefix
+    let call : Some (Sample c.in-Ok-Some-Sample.number) ≡ call_of (map string_bytes c.args.words.now) = search rules in
+    call_determined (λ o. AppendsPrefix _ _ o.bytes) _ _ _ call c.write_summary.ensures.prefix
 
 pub returns-in-Ok-None-clause-output : goal.returns-in-Ok-None-clause-output
 returns-in-Ok-None-clause-output g c =
     let call : ◌≡◌ {A = Option Call} None (call_of (map string_bytes c.args.words.now)) = search rules in
-    λ plain. call_determined (λ o. (c.write_usage-in-Ok-None.result ≡ o.status) × Appends _ _ o.bytes) _ _ _ call (c.write_usage-in-Ok-None.ensures.plain plain)
+    λ plain. call_determined (λ o. (c.write_usage.result ≡ o.status) × Appends _ _ o.bytes) _ _ _ call (c.write_usage.ensures.plain plain)
 
 pub returns-in-Ok-None-clause-prefix : goal.returns-in-Ok-None-clause-prefix
 returns-in-Ok-None-clause-prefix g c =
     let call : ◌≡◌ {A = Option Call} None (call_of (map string_bytes c.args.words.now)) = search rules in
-    call_determined (λ o. AppendsPrefix _ _ o.bytes) _ _ _ call c.write_usage-in-Ok-None.ensures.prefix
+    call_determined (λ o. AppendsPrefix _ _ o.bytes) _ _ _ call c.write_usage.ensures.prefix
 
 pub returns-in-Err-clause-verdicts : goal.returns-in-Err-clause-verdicts
 returns-in-Err-clause-verdicts g c = kept_holds _
@@ -46,10 +46,10 @@ pub returns-in-Ok-Some-Decide-clause-independent : goal.returns-in-Ok-Some-Decid
 returns-in-Ok-Some-Decide-clause-independent g c = since_for_every_choice _ _ c.decide_source.ensures.verdicts
 
 pub returns-in-Ok-Some-Sample-clause-independent : goal.returns-in-Ok-Some-Sample-clause-independent
-returns-in-Ok-Some-Sample-clause-independent g c = since_for_every_choice _ _ c.write_usage.ensures.verdicts
+returns-in-Ok-Some-Sample-clause-independent g c = since_for_every_choice _ _ c.write_summary.ensures.verdicts
 
 pub returns-in-Ok-None-clause-independent : goal.returns-in-Ok-None-clause-independent
-returns-in-Ok-None-clause-independent g c = since_for_every_choice _ _ c.write_usage-in-Ok-None.ensures.verdicts
+returns-in-Ok-None-clause-independent g c = since_for_every_choice _ _ c.write_usage.ensures.verdicts
 
 pub returns-in-Err-clause-independent : goal.returns-in-Err-clause-independent
 returns-in-Err-clause-independent g c = since_for_every_choice _ _ (kept_holds _)
