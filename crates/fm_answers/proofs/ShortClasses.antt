@@ -16,7 +16,7 @@ use Rattle.fm_text.specs.Factors.{one_word}
 use Rattle.fm_text.specs.Polynomials.{Rules}
 use Rattle.fm_problem.specs.Limits.{longest_name, most_ideals, most_queries}
 use Rattle.fm_problem.specs.declared.fault_kind.FaultKind.{FaultKind}
-use Rattle.fm_problem.specs.declared.fault_kind.FaultKind.TheVariants.{Syntax, Repeated, NotPrime, Limit, NotBuilt}
+use Rattle.fm_problem.specs.declared.fault_kind.FaultKind.TheVariants.{Syntax, Repeated, NotPrime, Limit}
 use Rattle.fm_problem.specs.declared.keyword.Question.{Question}
 use Rattle.fm_problem.specs.declared.keyword.Question.TheVariants.{Zero, Root, Support, Resolution, Ext}
 use Rattle.fm_problem.specs.declared.keyword.Keyword.{Keyword}
@@ -25,7 +25,7 @@ use Rattle.fm_problem.specs.declared.problem.Problem.{Problem}
 use Rattle.fm_problem.specs.declared.query.Query.{Query}
 use Rattle.fm_problem.specs.declared.query.Query as queries
 use Rattle.fm_problem.specs.Statements.{Statement, RingLine, OrderLine, IdealLine, ModuleLine, ClassLine, InvertLine, MapLine, MemberLine, keyword_of, ring_line, order_of, order_line, named_ideal, ideal_line, module_line, entries_of, class_parts, class_line, invert_line, map_line, member_line, after_keyword, by_words, statement_of}
-use Rattle.fm_problem.specs.Problems.{polynomial_in, plus_name, bare, ring_of, order_in, with_order, rules_of, generators_in, ideal_names, plus_ideal, with_ideal, degree_in, ideal_in, stage_in, plus_entry, vector_in, module_query, asked, is_built, query_in, plus_query, with_query, with_line, at_line, plus_line, after_second, after_ring, from_lines, problem_of}
+use Rattle.fm_problem.specs.Problems.{polynomial_in, plus_name, bare, ring_of, order_in, with_order, rules_of, generators_in, ideal_names, plus_ideal, with_ideal, degree_in, ideal_in, stage_in, plus_entry, vector_in, module_query, query_in, plus_query, with_query, with_line, at_line, plus_line, after_second, after_ring, from_lines, problem_of}
 use Rattle.fm_answers.specs.Answers.{IsShort}
 
 -- ---- cutting
@@ -223,32 +223,32 @@ module _ (n : ℕ) where
   module_at_most Resolution i k = tt
   module_at_most Ext i k = tt
 
-  asked_at_most : (q : Problem) (s : Statement) (z : Query) → Short s → asked q s ≡ Ok z → IsAtMost z
-  asked_at_most q (RingLine p names) z w h = absurd (no_fault Syntax z h)
-  asked_at_most q (OrderLine o) z w h = absurd (no_fault Syntax z h)
-  asked_at_most q (IdealLine m texts) z w h = absurd (no_fault Syntax z h)
-  asked_at_most q (ModuleLine a i m) z w h =
+  query_at_most : (q : Problem) (s : Statement) (z : Query) → Short s → query_in q s ≡ Ok z → IsAtMost z
+  query_at_most q (RingLine p names) z w h = absurd (no_fault Syntax z h)
+  query_at_most q (OrderLine o) z w h = absurd (no_fault Syntax z h)
+  query_at_most q (IdealLine m texts) z w h = absurd (no_fault Syntax z h)
+  query_at_most q (ModuleLine a i m) z w h =
       let d = first_read (degree_in q i) (λ i. ideal_in q m >>= λ k. Ok (module_query a i k)) z h in
       let k = first_read (ideal_in q m) (λ k. Ok (module_query a d.0 k)) z d.2 in
       subst IsAtMost (same_ok k.2) (module_at_most a d.0 k.0)
-  asked_at_most q (ClassLine i m e texts) z w h =
+  query_at_most q (ClassLine i m e texts) z w h =
       let d = first_read (degree_in q i) (λ i. ideal_in q m >>= λ k. (stage_in e >>= λ e. (vector_in (rules_of q) texts >>= λ v. Ok (queries.TheVariants.Class i k e v)))) z h in
       let k = first_read (ideal_in q m) (λ k. stage_in e >>= λ e. (vector_in (rules_of q) texts >>= λ v. Ok (queries.TheVariants.Class d.0 k e v))) z d.2 in
       let t = first_read (stage_in e) (λ e. vector_in (rules_of q) texts >>= λ v. Ok (queries.TheVariants.Class d.0 k.0 e v)) z k.2 in
       let v = first_read (vector_in (rules_of q) texts) (λ v. Ok (queries.TheVariants.Class d.0 k.0 t.0 v)) z t.2 in
       let count = entries_count (rules_of q) [] v.0 texts v.1 in
       subst IsAtMost (same_ok v.2) (omega (arith, count, w))
-  asked_at_most q (InvertLine i m text) z w h =
+  query_at_most q (InvertLine i m text) z w h =
       let d = first_read (degree_in q i) (λ i. ideal_in q m >>= λ k. (polynomial_in (rules_of q) text >>= λ f. Ok (queries.TheVariants.Invert i k f))) z h in
       let k = first_read (ideal_in q m) (λ k. polynomial_in (rules_of q) text >>= λ f. Ok (queries.TheVariants.Invert d.0 k f)) z d.2 in
       let f = first_read (polynomial_in (rules_of q) text) (λ f. Ok (queries.TheVariants.Invert d.0 k.0 f)) z k.2 in
       subst IsAtMost (same_ok f.2) tt
-  asked_at_most q (MapLine i m o) z w h =
+  query_at_most q (MapLine i m o) z w h =
       let d = first_read (degree_in q i) (λ i. ideal_in q m >>= λ k. (ideal_in q o >>= λ j. Ok (queries.TheVariants.Map i k j))) z h in
       let k = first_read (ideal_in q m) (λ k. ideal_in q o >>= λ j. Ok (queries.TheVariants.Map d.0 k j)) z d.2 in
       let j = first_read (ideal_in q o) (λ j. Ok (queries.TheVariants.Map d.0 k.0 j)) z k.2 in
       subst IsAtMost (same_ok j.2) tt
-  asked_at_most q (MemberLine m text) z w h =
+  query_at_most q (MemberLine m text) z w h =
       let k = first_read (ideal_in q m) (λ k. polynomial_in (rules_of q) text >>= λ f. Ok (queries.TheVariants.Member k f)) z h in
       let f = first_read (polynomial_in (rules_of q) text) (λ f. Ok (queries.TheVariants.Member k.0 f)) z k.2 in
       subst IsAtMost (same_ok f.2) tt
@@ -260,9 +260,7 @@ module _ (n : ℕ) where
   with_query_kept q t s short w h =
       let count = passed (nat_lt (length q.queries) most_queries) Limit (query_in q s >>= λ z. Ok (plus_query q z)) t h in
       let read = first_read (query_in q s) (λ z. Ok (plus_query q z)) t count.1 in
-      let said = first_read (asked q s) (λ z. if is_built z then Ok z else Err NotBuilt) read.0 read.1 in
-      let test = passed (is_built said.0) NotBuilt (Ok said.0) read.0 said.2 in
-      subst Kept (same_ok read.2) (queries_more q.queries read.0 w (subst IsAtMost (same_ok test.1) (asked_at_most q s said.0 short said.1)))
+      subst Kept (same_ok read.2) (queries_more q.queries read.0 w (query_at_most q s read.0 short read.1))
 
   ideal_kept : (q s : Problem) (m : Bytes) (texts : List Bytes) → Kept q → with_ideal q m texts ≡ Ok s → Kept s
   ideal_kept q s m texts w h =

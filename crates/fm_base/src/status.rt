@@ -11,7 +11,7 @@ pub enum Status {
     Refused,
     /// The words are of no form that the program has.
     Usage,
-    /// Some query ended without an answer.
+    /// The report was written, and the plan of some query stopped in a task.
     Unanswered,
     /// The problem text has a fault.
     Problem,

@@ -22,5 +22,6 @@ pub mod TakingInputs
 pub mod Lengths
 pub mod Nonzero
 pub mod Standing
-pub mod Places
+pub mod NewPairs
+pub mod KeptPairs
 pub mod Indexed

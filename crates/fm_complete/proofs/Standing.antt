@@ -78,7 +78,7 @@ inserted_each P o p (q ∷ qs) h w = go (pair_cmp o p q) (inserted_each P o p qs
     go Equal later = (h, w)
     go Greater later = (w.0, later)
 
-each_weaker : (P Q : CriticalPair → Type 0) (qs : List CriticalPair) → ((q : CriticalPair) → P q → Q q) → EachPair P qs → EachPair Q qs
+pub each_weaker : (P Q : CriticalPair → Type 0) (qs : List CriticalPair) → ((q : CriticalPair) → P q → Q q) → EachPair P qs → EachPair Q qs
 each_weaker P Q [] f w = tt
 each_weaker P Q (q ∷ qs) f w = (f q w.0, each_weaker P Q qs f w.1)
 
@@ -212,3 +212,7 @@ module _ (r : Ring) (rows : ℕ) (rest : List VTerm) (t : VTerm) (head : Some t 
             pending = with_pairs r.order (suc (length (terms_of members))) (same i) 1 (terms_of members) pending;
             log = map entry_value log ++ record { start = start; by = by; keep = true } ∷ [];
           }
+
+-- pairs of the members have smaller numbers than the next member
+pub pairs_earlier : (members : List (List VTerm)) (later : ℕ) (pending : List CriticalPair) → length members < later → EachPair (IsPairOf members) pending → EachPair (λ q. q.later < later) pending
+pairs_earlier members later pending few w = each_weaker (IsPairOf members) (λ q. q.later < later) pending (λ q h. let k = h.later_high in omega (arith, few, k)) w

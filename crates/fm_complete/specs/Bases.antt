@@ -19,7 +19,7 @@ abbrev pub entry_value : ProgramEntry → Entry
 entry_value e = record { start = start_value e.start; by = e.by.items; keep = e.keep }
 
 abbrev pub completion_value : ProgramCompletion → Completion
-completion_value c = record { members = terms_of c.members.items; pending = c.pending.items; log = map entry_value c.log.items }
+completion_value c = record { members = terms_of c.members.items; pending = c.pending.pairs; log = map entry_value c.log.items }
 
 -- a completion that has ended
 abbrev pub basis_value : Basis → Completion

@@ -8,6 +8,8 @@ pub mod Combinations
 pub mod Remainders
 pub mod Completions
 pub mod Pairs
+pub mod Pending
+pub mod PendingOrder
 pub mod Standing
 pub mod Bases
 pub mod Within

@@ -11,6 +11,7 @@ use Rattle.fm_complete.specs.declared.head_index.Head.{Head}
 use Rattle.fm_complete.specs.Divisions.{AreMembers, terms_of}
 use Rattle.fm_complete.specs.Indexed.{IsIndexOf}
 use Rattle.fm_complete.specs.Pairs.{EachPair, ArePairsOver}
+use Rattle.fm_complete.specs.Pending.{PendingValue}
 use Rattle.fm_complete.specs.Spread.{IsFront, tail_columns}
 use Rattle.fm_complete.specs.Trails.{member_at}
 
@@ -24,6 +25,11 @@ pub record IsPairOf (members : List (List VTerm)) (q : CriticalPair) : Type 0 wh
 
 abbrev pub ArePairsOf : Ring → List VectorValue → List CriticalPair → Type 0
 ArePairsOf r members pending = EachPair (IsPairOf (terms_of members)) pending × ArePairsOver r.vars pending
+
+-- pending pairs of the members, compared in the order of the ring
+pub record ArePending (r : Ring) (members : List VectorValue) (pending : PendingValue) : Type 0 where
+  pub pairs : ArePairsOf r members pending.pairs
+  pub compared : pending.order ≡ r.order
 
 abbrev pub AreMonicMembers : List (List VTerm) → Type 0
 AreMonicMembers [] = Unit {0}
@@ -53,3 +59,7 @@ AreOfShape r rows (v ∷ vs) = (v.ring ≡ r) × (v.rows ≡ rows) × AreOfShape
 abbrev pub with_first : Option CriticalPair → List CriticalPair → List CriticalPair
 with_first None ps = ps
 with_first (Some p) ps = p ∷ ps
+
+-- the pending pairs with p before them
+abbrev pub with_pair_first : CriticalPair → PendingValue → PendingValue
+with_pair_first p pending = record { order = pending.order; pairs = p ∷ pending.pairs }

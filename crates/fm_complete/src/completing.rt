@@ -9,13 +9,15 @@ ghost use Rattle.fm_complete.specs.Completions.{completed, kept, pair_formed, sk
 ghost use Rattle.fm_complete.specs.Divisions.{AreMembers, terms_of};
 ghost use Rattle.fm_complete.specs.Indexed.{IsIndexOf};
 ghost use Rattle.fm_complete.specs.Reductions.{divided};
-ghost use Rattle.fm_complete.specs.Standing.{AreOfShape, ArePairsOf, AreReady, AreStanding, values, with_first};
+ghost use Rattle.fm_complete.specs.Standing.{AreOfShape, ArePairsOf, ArePending, AreReady, AreStanding, values, with_first, with_pair_first};
 
 use crate::completion::Completion;
 use crate::head_index::HeadIndex;
+use crate::pairing::push_pairs;
 use crate::pairs::s_rest;
-use crate::pending::{find_skipper, push_pairs};
+use crate::pending::Pending;
 use crate::remainder::divided_rest;
+use crate::skipping::find_skipper;
 use crate::{Basis, CriticalPair, Entry, Remainder, Start};
 use fm_poly::Ring;
 use fm_run::{Stop, Work};
@@ -43,7 +45,7 @@ pub fn complete(
         members: Vec::new(alloc),
         heads,
         tails: Vec::new(alloc),
-        pending: Vec::new(alloc),
+        pending: Pending::new(alloc, ring.order),
         log: Vec::new(alloc),
     };
     match take_inputs(alloc, ring, rows, inputs, &mut c, work) {
@@ -73,12 +75,12 @@ fn take_inputs(
     requires few { length inputs.now < 2 ^ 32 }
     requires standing { AreStanding ring rows c.old.members.items }
     requires ready { AreReady ring rows c.old.members.items c.old.heads c.old.tails.items }
-    requires pairs { ArePairsOf ring c.old.members.items c.old.pending.items }
+    requires pairs { ArePending ring c.old.members.items c.old.pending }
     ensures follows { Follows (λ _. completion_value c.new) result work.old work.new
         (with_inputs ring 1 (terms_of (values inputs.now)) (completion_value c.old) work.old) }
     ensures standing { OnOk result (AreStanding ring rows c.new.members.items) }
     ensures ready { OnOk result (AreReady ring rows c.new.members.items c.new.heads c.new.tails.items) }
-    ensures pairs { OnOk result (ArePairsOf ring c.new.members.items c.new.pending.items) }
+    ensures pairs { OnOk result (ArePending ring c.new.members.items c.new.pending) }
 {
     for k in 0..inputs.len() {
         match take_input(alloc, ring, rows, k as u32 + 1, inputs[k], c, work) {
@@ -102,13 +104,13 @@ fn take_input(
     requires rows { v.now.rows ≡ rows }
     requires standing { AreStanding ring rows c.old.members.items }
     requires ready { AreReady ring rows c.old.members.items c.old.heads c.old.tails.items }
-    requires pairs { ArePairsOf ring c.old.members.items c.old.pending.items }
+    requires pairs { ArePending ring c.old.members.items c.old.pending }
     ensures follows { Follows (λ _. completion_value c.new) result work.old work.new
         (runs.taken_up ring (Input number) (completion_value c.old)
         (λ units. divided ring (terms_of c.old.members.items) units v.now.terms) work.old) }
     ensures standing { OnOk result (AreStanding ring rows c.new.members.items) }
     ensures ready { OnOk result (AreReady ring rows c.new.members.items c.new.heads c.new.tails.items) }
-    ensures pairs { OnOk result (ArePairsOf ring c.new.members.items c.new.pending.items) }
+    ensures pairs { OnOk result (ArePending ring c.new.members.items c.new.pending) }
 {
     let remainder = match divided_rest(alloc, &c.members, &c.heads, &mut c.tails, v, work) {
         Ok(remainder) => remainder,
@@ -130,12 +132,12 @@ fn finish(
 ) -> Result<(), Stop>
     requires standing { AreStanding ring rows c.old.members.items }
     requires ready { AreReady ring rows c.old.members.items c.old.heads c.old.tails.items }
-    requires pairs { ArePairsOf ring c.old.members.items c.old.pending.items }
+    requires pairs { ArePending ring c.old.members.items c.old.pending }
     ensures follows { Follows (λ _. completion_value c.new) result work.old work.new
         (repeated Budget (runs.next_pair ring) (completion_value c.old) work.old) }
     ensures standing { OnOk result (AreStanding ring rows c.new.members.items) }
     ensures ready { OnOk result (AreReady ring rows c.new.members.items c.new.heads c.new.tails.items) }
-    ensures done { OnOk result (c.new.pending.items ≡ []) }
+    ensures done { OnOk result (c.new.pending.pairs ≡ []) }
 {
     'pairs: loop {
         match next_pair(alloc, ring, rows, c, work) {
@@ -156,14 +158,14 @@ fn next_pair(
 ) -> Result<bool, Stop>
     requires standing { AreStanding ring rows c.old.members.items }
     requires ready { AreReady ring rows c.old.members.items c.old.heads c.old.tails.items }
-    requires pairs { ArePairsOf ring c.old.members.items c.old.pending.items }
+    requires pairs { ArePending ring c.old.members.items c.old.pending }
     ensures follows { Follows (λ formed. turn_value formed (completion_value c.new)) result work.old work.new
         (runs.next_pair ring (completion_value c.old) work.old) }
     ensures spent { IfOk result (λ formed. formed ≡ true → work.new < work.old) }
     ensures standing { OnOk result (AreStanding ring rows c.new.members.items) }
     ensures ready { OnOk result (AreReady ring rows c.new.members.items c.new.heads c.new.tails.items) }
-    ensures pairs { OnOk result (ArePairsOf ring c.new.members.items c.new.pending.items) }
-    ensures done { IfOk result (λ formed. formed ≡ false → c.new.pending.items ≡ []) }
+    ensures pairs { OnOk result (ArePending ring c.new.members.items c.new.pending) }
+    ensures done { IfOk result (λ formed. formed ≡ false → c.new.pending.pairs ≡ []) }
 {
     let taken = take_pair(
         alloc,
@@ -193,23 +195,23 @@ fn take_pair(
     rows: u32,
     members: &[Vector],
     heads: &HeadIndex,
-    pending: &mut Vec<CriticalPair>,
+    pending: &mut Pending,
     log: &mut Vec<Entry>,
 ) -> Result<Option<CriticalPair>, AllocError>
     requires members { AreMembers ring rows members.now }
     requires heads { IsIndexOf ring rows (terms_of members.now) heads.now }
-    requires pairs { ArePairsOf ring members.now pending.old.items }
-    ensures skipped { IfOk result (λ o. skipping (terms_of members.now) (map entry_value log.old.items) pending.old.items
-        ≡ record { members = terms_of members.now; pending = with_first o pending.new.items; log = map entry_value log.new.items }) }
-    ensures pairs { IfOk result (λ o. ArePairsOf ring members.now (with_first o pending.new.items)) }
-    ensures none { IfOk result (λ o. IfNone o (pending.new.items ≡ [])) }
+    requires pairs { ArePending ring members.now pending.old }
+    ensures skipped { IfOk result (λ o. skipping (terms_of members.now) (map entry_value log.old.items) pending.old.pairs
+        ≡ record { members = terms_of members.now; pending = with_first o pending.new.pairs; log = map entry_value log.new.items }) }
+    ensures pairs { IfOk result (λ o. ArePairsOf ring members.now (with_first o pending.new.pairs)) }
+    ensures none { IfOk result (λ o. IfNone o (pending.new.pairs ≡ [])) }
+    ensures order { pending.new.order ≡ pending.old.order }
 {
     'pairs: loop {
-        if pending.is_empty() {
+        let Some(p) = pending.take_first() else {
             return Ok(None);
-        }
-        let p = pending.remove(0);
-        let Some(k) = find_skipper(ring, rows, members, heads, pending.as_slice(), &p) else {
+        };
+        let Some(k) = find_skipper(ring, rows, members, heads, pending, &p) else {
             return Ok(Some(p));
         };
         log.push(Entry {
@@ -231,13 +233,13 @@ fn form(
 ) -> Result<(), Stop>
     requires standing { AreStanding ring rows c.old.members.items }
     requires ready { AreReady ring rows c.old.members.items c.old.heads c.old.tails.items }
-    requires pairs { ArePairsOf ring c.old.members.items (p ∷ c.old.pending.items) }
+    requires pairs { ArePending ring c.old.members.items (with_pair_first p c.old.pending) }
     ensures follows { Follows (λ _. completion_value c.new) result work.old work.new
         (pair_formed ring p (completion_value c.old) work.old) }
     ensures spent { OnOk result (work.new < work.old) }
     ensures standing { OnOk result (AreStanding ring rows c.new.members.items) }
     ensures ready { OnOk result (AreReady ring rows c.new.members.items c.new.heads c.new.tails.items) }
-    ensures pairs { OnOk result (ArePairsOf ring c.new.members.items c.new.pending.items) }
+    ensures pairs { OnOk result (ArePending ring c.new.members.items c.new.pending) }
 {
     let remainder = match s_rest(
         alloc,
@@ -279,12 +281,12 @@ fn keep(
     requires rows { remainder.rest.rows ≡ rows }
     requires standing { AreStanding ring rows c.old.members.items }
     requires ready { AreReady ring rows c.old.members.items c.old.heads c.old.tails.items }
-    requires pairs { ArePairsOf ring c.old.members.items c.old.pending.items }
+    requires pairs { ArePending ring c.old.members.items c.old.pending }
     ensures kept { OnOk result
         (completion_value c.new ≡ kept ring (start_value start) remainder.by.items remainder.rest.terms (completion_value c.old)) }
     ensures standing { OnOk result (AreStanding ring rows c.new.members.items) }
     ensures ready { OnOk result (AreReady ring rows c.new.members.items c.new.heads c.new.tails.items) }
-    ensures pairs { OnOk result (ArePairsOf ring c.new.members.items c.new.pending.items) }
+    ensures pairs { OnOk result (ArePending ring c.new.members.items c.new.pending) }
 {
     let Some(head) = remainder.rest.head() else {
         c.log.push(Entry {

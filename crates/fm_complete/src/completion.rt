@@ -1,7 +1,8 @@
 // Completions under way, and what they end in.
+use crate::Entry;
 use crate::head_index::HeadIndex;
+use crate::pending::Pending;
 use crate::spreading::Tail;
-use crate::{CriticalPair, Entry};
 use fm_vec::Vector;
 
 /// The members of a completion that ended, and its log.
@@ -17,6 +18,6 @@ pub(crate) struct Completion {
     pub members: Vec<Vector>,
     pub heads: HeadIndex,
     pub tails: Vec<Tail>,
-    pub pending: Vec<CriticalPair>,
+    pub pending: Pending,
     pub log: Vec<Entry>,
 }

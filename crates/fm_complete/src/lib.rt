@@ -1,7 +1,7 @@
 // Division and completion of vectors by the standard run (Buchberger's algorithm for submodules, with the chain criterion).
 // A head reduction passes once over the vector and the member; a vector of more than a hundred terms is kept in buckets, where it passes
-// over a share of both. Finding the member is linear in the heads of one component, a new pair in the members and the pending pairs, and a
-// skip in the heads of one component and the pending pairs.
+// over a share of both. Finding the member is linear in the heads of one component, the pairs of a new member in the members, and a skip in
+// the heads of one component, each times the logarithm of the pending pairs.
 #![tactic(auto)]
 
 pub(crate) mod borrowing;
@@ -16,10 +16,13 @@ mod graph_tests;
 pub(crate) mod head_index;
 pub mod laws;
 pub(crate) mod long;
+pub(crate) mod pairing;
 pub(crate) mod pairs;
 pub(crate) mod pending;
+pub(crate) mod pending_pair;
 pub(crate) mod reducing;
 pub mod remainder;
+pub(crate) mod skipping;
 pub(crate) mod spreading;
 pub(crate) mod starting;
 pub mod step;

@@ -6,7 +6,6 @@ use Rattle.std.proofs.lemmas.List.Sums.{count_by-le-length, sum_by-cons}
 use Rattle.std.specs.Int.{from_bool}
 use Rattle.fm_problem.specs.declared.problem.Problem.{Problem}
 use Rattle.fm_problem.specs.declared.query.Query.{Query}
-use Rattle.fm_problem.specs.Problems.{is_built}
 use Rattle.fm_problem.specs.Sound.{IsProblem, IsQueryOf}
 use Rattle.fm_cert.specs.Ends.{end_kind, end_values}
 use Rattle.fm_report.specs.Reports.{QueryReport}
@@ -23,7 +22,6 @@ module _ (units : ℕ) (q : Problem) where
     pub no : c.no + no_count (query_reports units q left) ≡ no_count (query_reports units q q.queries)
     pub unanswered : c.unanswered + unanswered_count (query_reports units q left) ≡ unanswered_count (query_reports units q q.queries)
     pub asked : All (IsQueryOf q) left
-    pub built : All (λ z. is_built z ≡ true) left
 
   -- the counts of one more report
   module _ (p : QueryReport → Bool) where
@@ -52,7 +50,6 @@ module _ (units : ℕ) (q : Problem) where
         no = counted (λ x. says_no x.kind x.values) (query_reports units q left) (query_reports units q rest) (query_reports units q q.queries) b c.no l cut n h.no;
         unanswered = counted (λ x. is_unanswered x.kind) (query_reports units q left) (query_reports units q rest) (query_reports units q q.queries) b c.unanswered m cut u h.unanswered;
         asked = All-tail (IsQueryOf q) z rest (subst (All (IsQueryOf q)) e h.asked);
-        built = All-tail (λ x. is_built x ≡ true) z rest (subst (All (λ x. is_built x ≡ true)) e h.built);
       }
 
   -- no query is left

@@ -8,7 +8,7 @@ use Rattle.std.proofs.lemmas.Bool.Decides.{nat_tests}
 use Rattle.fm_words.specs.Parts.{Bytes}
 use Rattle.fm_problem.specs.Faults.{fault_text}
 use Rattle.fm_problem.specs.declared.fault_kind.FaultKind.{FaultKind}
-use Rattle.fm_problem.specs.declared.fault_kind.FaultKind.TheVariants.{Syntax, UnknownName, Repeated, Range, NotPrime, Limit, NotBuilt}
+use Rattle.fm_problem.specs.declared.fault_kind.FaultKind.TheVariants.{Syntax, UnknownName, Repeated, Range, NotPrime, Limit}
 use Rattle.fm_report.specs.Holding.{VerdictsHold}
 use Rattle.fm_report.proofs.Silent.{message_holds}
 
@@ -50,7 +50,6 @@ fault_one_line Repeated = refl
 fault_one_line Range = refl
 fault_one_line NotPrime = refl
 fault_one_line Limit = refl
-fault_one_line NotBuilt = refl
 
 pub fault_line_holds : (l : ℕ) (k : FaultKind) (front back : Bytes) → codes "line " ++ (decimal l ++ (codes ": " ++ (fault_text k ++ 10 ∷ []))) ≡ front ++ back → VerdictsHold front
 fault_line_holds l k front back e =

@@ -5,6 +5,7 @@ pub mod SoundIdeals
 pub mod BlockLines
 pub mod EndedReports
 pub mod Loops
+pub mod MapReports
 pub mod Whole
 pub mod FaultLines
 pub mod ExtNames

@@ -7,7 +7,6 @@ use Rattle.fm_words.specs.Parts.{Bytes}
 use Rattle.fm_problem.specs.declared.problem.Problem.{Problem}
 use Rattle.fm_problem.specs.declared.query.Query.{Query}
 use Rattle.fm_problem.specs.declared.query.Query as queries
-use Rattle.fm_problem.specs.Problems.{is_built}
 use Rattle.fm_problem.specs.Sound.{IsQueryOf}
 use Rattle.fm_cert.specs.Lines.{lines_text}
 use Rattle.fm_cert.specs.Said.{IsQueryOver}
@@ -37,7 +36,7 @@ module _ (units : ℕ) (q : Problem) where
 
   abbrev pub IsLeft : Bytes → Bool → ℕ → Bytes → Bool → List Query → Type 0
   IsLeft now all number whole total left =
-      (Shown now number left ≡ whole) × ((all && are_answered (query_reports units q left)) ≡ total) × All (IsQueryOf q) left × All (λ z. is_built z ≡ true) left × (number + length left ≤ length q.queries)
+      (Shown now number left ≡ whole) × ((all && are_answered (query_reports units q left)) ≡ total) × All (IsQueryOf q) left × (number + length left ≤ length q.queries)
 
   -- a query is answered
   pub answered : (z : Query) (rest left : List Query) (a : Answer) (number : ℕ) (old new whole : Bytes) (all done new_all total : Bool)
@@ -47,12 +46,11 @@ module _ (units : ℕ) (q : Problem) where
   answered z rest left a number old new whole all done new_all total e g n d na h =
       let b : QueryReport = answer_report q z a in
       let cut : query_reports units q left ≡ b ∷ query_reports units q rest = ap (query_reports units q) e ∙ ap (λ b. b ∷ query_reports units q rest) (sym g) in
-      let count : number + length (z ∷ rest) ≤ length q.queries = subst (λ l. number + length l ≤ length q.queries) e h.4 in (
+      let count : number + length (z ∷ rest) ≤ length q.queries = subst (λ l. number + length l ≤ length q.queries) e h.3 in (
         query_written z rest left b number old new whole cut n h.0,
         ap (λ x. x && are_answered (query_reports units q rest)) (na ∙ ap (λ x. all && x) d) ∙ regroup all (not (is_unanswered b.kind)) (are_answered (query_reports units q rest))
             ∙ ap (λ bs. all && are_answered bs) (sym cut) ∙ h.1,
         All-tail (IsQueryOf q) z rest (subst (All (IsQueryOf q)) e h.2),
-        All-tail (λ x. is_built x ≡ true) z rest (subst (All (λ x. is_built x ≡ true)) e h.3),
         omega (arith, count),
       )
 

@@ -4,7 +4,6 @@ ghost use Rattle.fm_cert.specs.Ends.{end_kind};
 ghost use Rattle.fm_cert.specs.Lines.{lines_text};
 ghost use Rattle.fm_cert.specs.Said.{IsQueryOver};
 ghost use Rattle.fm_answers.specs.Answers.{are_answered, is_unanswered, query_report, query_reports, report_bytes};
-ghost use Rattle.fm_problem.specs.Problems.{is_built};
 ghost use Rattle.fm_decide.specs.Given.{IsAnswerOver, answer_report};
 ghost use Rattle.fm_problem.specs.Sound.{IsProblem, IsQueryOf};
 ghost use Rattle.fm_report.specs.Reports.{block_lines, query_lines};
@@ -14,6 +13,7 @@ use crate::class::answer_class;
 use crate::ended::Answer;
 use crate::ext::answer_ext;
 use crate::invert::answer_invert;
+use crate::map::answer_map;
 use crate::member::answer_member;
 use crate::resolution::answer_resolution;
 use crate::root::answer_root;
@@ -73,7 +73,6 @@ pub(crate) fn answer_query(
 ) -> Result<Answer, AllocError>
     requires problem { IsProblem problem.now }
     requires query { IsQueryOf problem.now query.now }
-    requires built { is_built query.now ≡ true }
     ensures value { IfOk result (λ a. answer_report problem.now query.now a ≡ query_report units problem.now query.now) }
     ensures over { IfOk result (IsAnswerOver problem.now.ring.vars) }
 {
@@ -88,8 +87,7 @@ pub(crate) fn answer_query(
         }
         Query::ExtOf { i, ideal } => answer_ext(alloc, problem, units, *i, *ideal),
         Query::Member { ideal, f } => answer_member(alloc, problem, units, *ideal, f),
-        // The reader refuses this kind, so that a problem holds none.
-        Query::Map { .. } => Err(AllocError),
+        Query::Map { i, source, target } => answer_map(alloc, problem, units, *i, *source, *target),
     }
 }
 

@@ -166,6 +166,30 @@ pub(crate) fn push_block(
     forms.push_names(alloc, problem, namings, lines)
 }
 
+/// The block of Ext and its chain of kernels for the ideal with this number, after the lines and the forms that stand already.
+pub(crate) fn push_base_block(
+    alloc: Global,
+    problem: &Problem,
+    ideal: u32,
+    i: u8,
+    base: &Base,
+    forms: &mut Forms,
+    lines: &mut Vec<Line>,
+) -> Result<(), AllocError>
+    requires problem { IsProblem problem.now }
+    requires ideal { ideal < length problem.now.ideals }
+    requires ring { ring_of base.now.ext ≡ problem.now.ring }
+    requires before { AreLinesOver problem.now.ring.vars lines.old.items }
+    ensures lines { let r = problem.now.ring in OnOk result (line_values problem.now lines.new.items ≡ line_values problem.now lines.old.items
+        ++ datum_line problem.now ideal i ∷ naming_lines problem.now.vars (base_namings r (base_meaning r base.now)) forms.old) }
+    ensures forms { let r = problem.now.ring in OnOk result (forms.new ≡ forms_after problem.now.vars (base_namings r (base_meaning r base.now)) forms.old) }
+    ensures over { OnOk result (AreLinesOver problem.now.ring.vars lines.new.items) }
+{
+    let mut namings = Vec::new(alloc);
+    push_base(alloc, base, &mut namings)?;
+    push_block(alloc, problem, ideal, i, namings, forms, lines)
+}
+
 /// The lines of one block.
 pub(crate) fn one_block(
     alloc: Global,
@@ -201,7 +225,8 @@ pub(crate) fn base_lines(
         ≡ block_of problem.now ideal i (base_namings r (base_meaning r base.now))) }
     ensures over { IfOk result (λ lines. AreLinesOver problem.now.ring.vars lines.items) }
 {
-    let mut namings = Vec::new(alloc);
-    push_base(alloc, base, &mut namings)?;
-    one_block(alloc, problem, ideal, i, namings)
+    let mut forms = Forms::new(alloc);
+    let mut lines = Vec::new(alloc);
+    push_base_block(alloc, problem, ideal, i, base, &mut forms, &mut lines)?;
+    Ok(lines)
 }

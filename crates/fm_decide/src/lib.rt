@@ -13,6 +13,7 @@ mod ext;
 mod ideals;
 mod invert;
 pub mod laws;
+mod map;
 mod member;
 mod printing;
 mod resolution;

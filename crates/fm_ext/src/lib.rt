@@ -9,6 +9,8 @@ pub(crate) mod lifting;
 pub mod morphism;
 pub mod presenting;
 pub(crate) mod relations;
+#[cfg(test)]
+mod tests;
 
 pub use exts::Ext;
 pub use identities::identity_along;

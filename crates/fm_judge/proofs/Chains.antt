@@ -35,9 +35,12 @@ module _ (r : Ring) where
       product_columns (rows_of K) (columns_of K) (columns_of W) (part_value r K) (part_value r W) B (part_shape r K h.0) (renamed r (part_value r W) (sym h.2) refl (part_shape r W h.1)) e
 
   -- where a column is outside, not all columns are inside
+  pub not_inside : (m k : ℕ) (A B : MatrixOf r) (c : ℕ) → HasShape r.prime r.vars m k A → 0 < c → c ≤ length B.columns → ¬ (InImage r.prime r.vars (matrix_twist r.prime r.vars 0 A) (get_or B.columns (c - 1) [])) → ¬ (ColumnsInImage r.prime r.vars A B)
+  not_inside m k A B c s some few out all =
+      out (subst (λ X. InImage r.prime r.vars X (get_or B.columns (c - 1) [])) (sym (twist_law_none r.prime r.vars m k A s)) (all (c - 1) (omega (arith, some, few))))
+
   pub not_all_inside : (K : Part) (B : MatrixOf r) (c : ℕ) → fits K ≡ true → 0 < c → c ≤ length B.columns → ¬ (InImage r.prime r.vars (matrix_twist r.prime r.vars 0 (part_value r K)) (get_or B.columns (c - 1) [])) → ¬ (ColumnsInImage r.prime r.vars (part_value r K) B)
-  not_all_inside K B c f some few out all = out (subst (λ A. InImage r.prime r.vars A (get_or B.columns (c - 1) []))
-      (sym (twist_law_none r.prime r.vars (rows_of K) (columns_of K) (part_value r K) (part_shape r K f))) (all (c - 1) (omega (arith, some, few))))
+  not_all_inside K B c f some few out = not_inside (rows_of K) (columns_of K) (part_value r K) B c (part_shape r K f) some few out
 
 module _ (r : Ring) (g : Goal) where
   abbrev pub Kernels : Block → List (MatrixOf r)

@@ -1,33 +1,29 @@
--- What the claims of a line show, where they hold, in each place.
-use Rattle.std.proofs.Common.{◌≡◌, ℕ, zero, suc, ◌+◌, ◌-◌, ◌<◌, ◌≤◌, Bool, true, false, ◌&&◌, nat_lt, nat_eq, nat_le, if◌then◌else◌, List, [], ◌∷◌, ◌++◌, length, Option, Some, None, option_map, refl, sym, ap, ◌∙◌, subst, arith}
+-- What the claims of the lines of a base show, where they hold, in each place.
+use Rattle.std.proofs.Common.{◌≡◌, ℕ, zero, suc, ◌-◌, ◌<◌, ◌≤◌, Bool, true, false, ◌&&◌, nat_lt, nat_eq, nat_le, if◌then◌else◌, List, [], ◌∷◌, ◌++◌, length, Option, Some, None, option_map, refl, sym, ap, ◌∙◌, subst, arith}
 use Rattle.std.proofs.lemmas.Bool.{and_parts, ltb-true, leb-true}
 use Rattle.fm_words.specs.Options.{◌>>=◌, where_so}
 use Rattle.fm_limit.specs.ResolvedIdeal.{rank}
-use Rattle.fm_limit.specs.Verdicts.{zero_limit, zero_class, member}
-use Rattle.fm_poly.specs.Polys.{meaning}
 use Rattle.fm_poly.specs.declared.ring.Ring.{Ring}
 use Rattle.fm_graphs.specs.Graphs.{MatrixOf}
 use Rattle.fm_problem.specs.declared.problem.Problem.{Problem}
-use Rattle.fm_report.specs.Parts.{Part, flip, twist, times, meant}
+use Rattle.fm_report.specs.Parts.{Part, flip, twist, times}
 use Rattle.fm_report.specs.Sheets.{Block, numbered, add_differential, add_lift, add_cocycles, add_kernel, add_morphism}
 use Rattle.fm_parts.specs.Shapes.{rows_of, columns_of, fits}
 use Rattle.fm_parts.specs.Replays.{are_numbers}
-use Rattle.fm_parts.specs.Conditions.{Log, Condition, equal, follows, kernel, preimage, outside, never}
+use Rattle.fm_parts.specs.Conditions.{Log, Condition, equal, follows, kernel, preimage, outside}
 use Rattle.fm_parts.specs.Sound.{IsSoundLog}
-use Rattle.fm_parts.specs.Meanings.{Says, AllSay, HaveSoundLogs}
+use Rattle.fm_parts.specs.Meanings.{AllSay, HaveSoundLogs}
 use Rattle.fm_judge.specs.Goals.{Goal, told_rank, told_generators, told_relations, told_moves}
-use Rattle.fm_judge.specs.Goals as aims
-use Rattle.fm_judge.specs.Places.{Place, after_exact, after_differential, after_lift, after_morphism, after_stable, after_coordinates, after_row}
+use Rattle.fm_judge.specs.Places.{Place, after_exact, after_differential, after_lift, after_morphism, after_stable}
 use Rattle.fm_judge.specs.Places as places
-use Rattle.fm_judge.specs.Claims.{row_part, column_part, unit_part, codifferential, agreeing, stage_of, class_of, member_of, generated, excluded, lives_before, on_differential, on_lift}
+use Rattle.fm_judge.specs.Claims.{row_part, unit_part, codifferential, agreeing, generated, excluded, on_differential, on_lift}
 use Rattle.fm_judge.proofs.Options.{none_some, same_some, followed, mapped, where_true, last_number, earlier_number}
 use Rattle.fm_judge.proofs.Goods.{AreGood, good_append, good_at, value_at, columns_are}
 use Rattle.fm_judge.proofs.Resolving.{Told, Ds, Naming, row_means, rank_old, named_more, exact_more}
-use Rattle.fm_judge.proofs.Lifting.{ideal_of, first_lift, next_lift, cocycles_named, relations_named, morphism_named}
+use Rattle.fm_judge.proofs.Lifting.{first_lift, next_lift, cocycles_named, relations_named, morphism_named}
 use Rattle.fm_judge.proofs.Chains.{Repeating, chain_named, chain_grows, chain_repeats}
-use Rattle.fm_judge.proofs.Verdicts.{zero_yes, zero_no, member_yes, member_no}
-use Rattle.fm_judge.proofs.Classes.{IsIn, coordinates_are, outside_kernel, dies_right, lives_right}
-use Rattle.fm_judge.proofs.Facts.{IsFineAim, HasBlock, stated_of, IsOf, FactsAt, naming_shown, exact_shown, lift_shown, morphism_shown, stable_shown, coordinates_shown}
+use Rattle.fm_judge.proofs.Stated.{IsFineAim}
+use Rattle.fm_judge.proofs.Facts.{HasBlock, IsOf, FactsAt, naming_shown, exact_shown, lift_shown, morphism_shown, stable_shown}
 
 abbrev pub AreSound : Ring → List Log → Type 0
 AreSound r [] = Unit {0}
@@ -58,38 +54,38 @@ told_last : (r : Ring) (o : Option ℕ) (n : ℕ) → AllSay r (agreeing o n) �
 told_last r None n s = tt
 told_last r (Some k) n s = s.0
 
-module _ (q : Problem) (g : Goal) (fine : IsFineAim g.degree g.aim) where
+module _ (q : Problem) (g : Goal) (ls : List Part) (fine : IsFineAim g.degree g.aim) where
   abbrev r : Ring
   r = q.ring
 
   -- the logs of the conditions are sound, and where all conditions are true, the facts of the next place are there
   abbrev pub Shown : Place → Option Block → List Condition → Type 0
-  Shown p ob cs = HaveSoundLogs r cs × (AllSay r cs → FactsAt q g p ob)
+  Shown p ob cs = HaveSoundLogs r cs × (AllSay r cs → FactsAt q g ls p ob)
 
   module _ (parts : List Part) (good : AreGood parts) (logs : List Log) (sound : AreSound r logs) where
     -- ---- the forms of claims
-    record Generated (says : Log → (X W : Part) → Condition) (more cs : List Condition) : Type 0 where
-      log : Log
-      X : Part
-      W : Part
-      sound_log : IsSoundLog r log
-      is : says log X W ∷ more ≡ cs
+    pub record Generated (says : Log → (X W : Part) → Condition) (more cs : List Condition) : Type 0 where
+      pub log : Log
+      pub X : Part
+      pub W : Part
+      pub sound_log : IsSoundLog r log
+      pub is : says log X W ∷ more ≡ cs
 
-    generated_is : (b : Block) (says : Log → (X W : Part) → Condition) (n x w : ℕ) (more cs : List Condition) → generated r g b parts logs says n x w more ≡ Some cs → Generated says more cs
+    pub generated_is : (b : Block) (says : Log → (X W : Part) → Condition) (n x w : ℕ) (more cs : List Condition) → generated r g b parts logs says n x w more ≡ Some cs → Generated says more cs
     generated_is b says n x w more cs e =
         let a = followed (numbered logs n) (λ log. numbered parts x >>= λ X. option_map (λ W. says log X W ∷ more) (numbered parts w)) cs e in
         let c = followed (numbered parts x) (λ X. option_map (λ W. says a.0 X W ∷ more) (numbered parts w)) cs a.2 in
         let d = mapped (λ W. says a.0 c.0 W ∷ more) (numbered parts w) cs c.2 in
         record { log = a.0; X = c.0; W = d.0; sound_log = sound_at r logs n a.0 sound a.1; is = d.2 }
 
-    record Excluded (e : ℕ) (A V : Part) (c : ℕ) (by : List ℕ) (cs : List Condition) : Type 0 where
-      log : Log
-      sound_log : IsSoundLog r log
-      some : 0 < c
-      few : c ≤ columns_of V
-      is : outside log e A V c by ∷ [] ≡ cs
+    pub record Excluded (e : ℕ) (A V : Part) (c : ℕ) (by : List ℕ) (cs : List Condition) : Type 0 where
+      pub log : Log
+      pub sound_log : IsSoundLog r log
+      pub some : 0 < c
+      pub few : c ≤ columns_of V
+      pub is : outside log e A V c by ∷ [] ≡ cs
 
-    excluded_is : (b : Block) (e : ℕ) (A V : Part) (n c : ℕ) (by : List ℕ) (cs : List Condition) → excluded r g b parts logs e A V n c by ≡ Some cs → Excluded e A V c by cs
+    pub excluded_is : (b : Block) (e : ℕ) (A V : Part) (n c : ℕ) (by : List ℕ) (cs : List Condition) → excluded r g b parts logs e A V n c by ≡ Some cs → Excluded e A V c by cs
     excluded_is b e A V n c by cs h =
         let a = followed (numbered logs n) (λ (log : Log). where_so (are_numbers log.members by && (nat_lt 0 c && nat_le c (columns_of V))) (Some (outside log e A V c by ∷ []))) cs h in
         let t = where_true (are_numbers (a.0).members by && (nat_lt 0 c && nat_le c (columns_of V))) (Some (outside a.0 e A V c by ∷ [])) cs a.2 in
@@ -108,7 +104,7 @@ module _ (q : Problem) (g : Goal) (fine : IsFineAim g.degree g.aim) where
         subst (Shown (after_differential g 1) (Some c)) (ap made same ∙ m.2) (
           (tt, sound_agreeing r (told_rank g.aim 0) 1 (agreeing (told_rank g.aim 1) (columns_of P)) (agreeing_sound r (told_rank g.aim 1) (columns_of P))),
           λ all. let t = told_first r (told_rank g.aim 0) 1 (agreeing (told_rank g.aim 1) (columns_of P)) all.1 in
-              naming_shown q g fine c (record { degree = of.degree; generators = of.generators }) 1 has (omega arith)
+              naming_shown q g ls fine c (record { degree = of.degree; generators = of.generators; behind = of.behind }) 1 has (omega arith)
               (named_more r g 0 b N P f (all.0).2 (λ z. (all.0).4 ∙ row_means r g.generators) (λ z. t.0) (told_last r (told_rank g.aim 1) (columns_of P) t.1)),
         )
 
@@ -126,17 +122,17 @@ module _ (q : Problem) (g : Goal) (fine : IsFineAim g.degree g.aim) where
           (tt, agreeing_sound r (told_rank g.aim (suc (suc j))) (columns_of P)),
           λ all.
               let rows : rows_of P ≡ rank r.prime r.vars (Ds r g b) (suc j) = all.0 ∙ columns_are r d fd ∙ ap (λ (A : MatrixOf r). length A.columns) (sym (value_at r c.differentials j d a.1).1) ∙ rank_old r g (suc j) b N P f (suc j) (omega arith) in
-              naming_shown q g fine c (record { degree = of.degree; generators = of.generators }) (suc (suc j)) has (omega (arith, l))
+              naming_shown q g ls fine c (record { degree = of.degree; generators = of.generators; behind = of.behind }) (suc (suc j)) has (omega (arith, l))
               (named_more r g (suc j) b N P f rows (λ z. absurd (omega (arith, z))) (λ z. absurd (omega (arith, z))) (told_last r (told_rank g.aim (suc (suc j))) (columns_of P) all.1)),
         )
 
-    pub on_d : (j : ℕ) (b : Block) → FactsAt q g (places.differential j) (Some b) → (P : Part) → fits P ≡ true → (cs : List Condition)
+    pub on_d : (j : ℕ) (b : Block) → FactsAt q g ls (places.differential j) (Some b) → (P : Part) → fits P ≡ true → (cs : List Condition)
         → on_differential r g (add_differential b P) parts logs j ≡ Some cs → Shown (after_differential g (suc j)) (Some (add_differential b P)) cs
     on_d zero b F P f cs e = first_differential b F.0 F.1.0 F.1.2 P f cs e
     on_d (suc j) b F P f cs e = next_differential j b F.0 F.1.0 F.1.1 F.1.2 P f cs e
 
     -- ---- `exact`
-    pub on_exact : (j : ℕ) (b : Block) → FactsAt q g (places.exactness j) (Some b) → (n x w : ℕ) (cs : List Condition)
+    pub on_exact : (j : ℕ) (b : Block) → FactsAt q g ls (places.exactness j) (Some b) → (n x w : ℕ) (cs : List Condition)
         → (numbered b.differentials (suc j) >>= λ d. numbered b.differentials (suc (suc j)) >>= λ next. generated r g b parts logs (λ log X W. kernel log d next X W) n x w []) ≡ Some cs
         → Shown (after_exact g (suc j)) (Some b) cs
     on_exact j b F n x w cs e =
@@ -145,11 +141,11 @@ module _ (q : Problem) (g : Goal) (fine : IsFineAim g.degree g.aim) where
         let G = generated_is b (λ log X W. kernel log a.0 c.0 X W) n x w [] cs c.2 in
         subst (Shown (after_exact g (suc j)) (Some b)) G.is (
           (G.sound_log, tt),
-          λ all. exact_shown q g fine b F.0 (suc j) F.1.0 F.1.1 (exact_more r g j b F.1.2 a.0 c.0 a.1 c.1 (all.0).1),
+          λ all. exact_shown q g ls fine b F.0 (suc j) F.1.0 F.1.1 (exact_more r g j b F.1.2 a.0 c.0 a.1 c.1 (all.0).1),
         )
 
     -- ---- `theta`
-    pub on_theta : (j : ℕ) (b : Block) → FactsAt q g (places.lift j) (Some b) → (P : Part) → fits P ≡ true → (cs : List Condition)
+    pub on_theta : (j : ℕ) (b : Block) → FactsAt q g ls (places.lift j) (Some b) → (P : Part) → fits P ≡ true → (cs : List Condition)
         → on_lift r g (add_lift b P) parts logs j ≡ Some cs → Shown (after_lift g (suc j)) (Some (add_lift b P)) cs
     on_theta zero b F P f cs e =
         let c = add_lift b P in
@@ -159,7 +155,7 @@ module _ (q : Problem) (g : Goal) (fine : IsFineAim g.degree g.aim) where
         let same : P ≡ m.0 = last_number b.lift P m.0 1 (ap suc (sym L.count)) m.1 in
         subst (Shown (after_lift g 1) (Some c)) (ap made same ∙ m.2) (
           (tt, tt),
-          λ all. lift_shown q g fine c (record { degree = F.0.degree; generators = F.0.generators }) 1 F.1.0 (omega arith) (first_lift r g b L P all.0),
+          λ all. lift_shown q g ls fine c (record { degree = F.0.degree; generators = F.0.generators; behind = F.0.behind }) 1 F.1.0 (omega arith) (first_lift r g b L P all.0),
         )
     on_theta (suc j) b F P f cs e =
         let c = add_lift b P in
@@ -173,11 +169,11 @@ module _ (q : Problem) (g : Goal) (fine : IsFineAim g.degree g.aim) where
         let old = earlier_number b.lift P t.0 (suc j) (let n = L.count in omega (arith, n)) t.1 in
         subst (Shown (after_lift g (suc (suc j))) (Some c)) (ap (made a.0 t.0) same ∙ m.2) (
           (tt, tt),
-          λ all. lift_shown q g fine c (record { degree = F.0.degree; generators = F.0.generators }) (suc (suc j)) F.1.0 (omega (arith, few)) (next_lift r g j b L P a.0 t.0 f a.1 old all.0),
+          λ all. lift_shown q g ls fine c (record { degree = F.0.degree; generators = F.0.generators; behind = F.0.behind }) (suc (suc j)) F.1.0 (omega (arith, few)) (next_lift r g j b L P a.0 t.0 f a.1 old all.0),
         )
 
     -- ---- `cocycles`, `relations` and `morphism`
-    pub on_cocycles : (b : Block) → FactsAt q g places.cocycles (Some b) → (Z : Part) → fits Z ≡ true → (n x w : ℕ) (cs : List Condition)
+    pub on_cocycles : (b : Block) → FactsAt q g ls places.cocycles (Some b) → (Z : Part) → fits Z ≡ true → (n x w : ℕ) (cs : List Condition)
         → (numbered b.differentials (suc g.degree) >>= λ d. numbered (b.cocycles ++ Z ∷ []) 1 >>= λ Z.
         generated r g (add_cocycles b Z) parts logs (λ log X W. kernel log (flip d) Z X W) n x w (agreeing (told_generators g.aim) (columns_of Z))) ≡ Some cs
         → Shown places.relations (Some (add_cocycles b Z)) cs
@@ -191,10 +187,10 @@ module _ (q : Problem) (g : Goal) (fine : IsFineAim g.degree g.aim) where
         let G = generated_is c (λ log X W. kernel log (flip a.0) Z X W) n x w (agreeing (told_generators g.aim) (columns_of Z)) cs (ap (after a.0) same ∙ z.2) in
         subst (Shown places.relations (Some c)) G.is (
           (G.sound_log, agreeing_sound r (told_generators g.aim) (columns_of Z)),
-          λ all. (record { degree = F.0.degree; generators = F.0.generators }, (F.1.0, cocycles_named r g b B Z a.0 f a.1 (all.0).0 (all.0).1 (told_last r (told_generators g.aim) (columns_of Z) all.1))),
+          λ all. (record { degree = F.0.degree; generators = F.0.generators; behind = F.0.behind }, (F.1.0, cocycles_named r g b B Z a.0 f a.1 (all.0).0 (all.0).1 (told_last r (told_generators g.aim) (columns_of Z) all.1))),
         )
 
-    pub on_relations : (b : Block) → FactsAt q g places.relations (Some b) → (N : Part) → fits N ≡ true → (n x w : ℕ) (cs : List Condition)
+    pub on_relations : (b : Block) → FactsAt q g ls places.relations (Some b) → (N : Part) → fits N ≡ true → (n x w : ℕ) (cs : List Condition)
         → (numbered b.cocycles 1 >>= λ Z. codifferential r b.differentials g.degree >>= λ d. numbered (b.kernels ++ N ∷ []) 1 >>= λ N.
         generated r g (add_kernel b N) parts logs (λ log X W. preimage log Z d N X W) n x w (agreeing (told_relations g.aim) (columns_of N))) ≡ Some cs
         → Shown places.morphism (Some (add_kernel b N)) cs
@@ -211,10 +207,10 @@ module _ (q : Problem) (g : Goal) (fine : IsFineAim g.degree g.aim) where
         let G = generated_is c (λ log X W. preimage log C.Z d.0 N X W) n x w (agreeing (told_relations g.aim) (columns_of N)) cs (ap (λ Z. after Z d.0 N) same_z ∙ ap (after z.0 d.0) same ∙ k.2) in
         subst (Shown places.morphism (Some c)) G.is (
           (G.sound_log, agreeing_sound r (told_relations g.aim) (columns_of N)),
-          λ all. (record { degree = F.0.degree; generators = F.0.generators }, (F.1.0, relations_named r g b B N d.0 f d.1 (all.0).0 (all.0).1 (told_last r (told_relations g.aim) (columns_of N) all.1))),
+          λ all. (record { degree = F.0.degree; generators = F.0.generators; behind = F.0.behind }, (F.1.0, relations_named r g b B N d.0 f d.1 (all.0).0 (all.0).1 (told_last r (told_relations g.aim) (columns_of N) all.1))),
         )
 
-    pub on_morphism : (b : Block) → FactsAt q g places.morphism (Some b) → (U : Part) → fits U ≡ true → (cs : List Condition)
+    pub on_morphism : (b : Block) → FactsAt q g ls places.morphism (Some b) → (U : Part) → fits U ≡ true → (cs : List Condition)
         → (numbered b.cocycles 1 >>= λ Z. numbered b.lift (suc g.degree) >>= λ theta. option_map (λ U. equal (times (flip theta) Z) (times (twist Z 1) U) ∷ []) (numbered (b.morphism ++ U ∷ []) 1)) ≡ Some cs
         → Shown (after_morphism g.aim) (Some (add_morphism b U)) cs
     on_morphism b F U f cs e =
@@ -229,11 +225,11 @@ module _ (q : Problem) (g : Goal) (fine : IsFineAim g.degree g.aim) where
         let same_z : C.Z ≡ z.0 = last_number [] C.Z z.0 1 refl (ap (λ xs. numbered xs 1) (sym C.is) ∙ z.1) in
         subst (Shown (after_morphism g.aim) (Some c)) (ap (λ Z. made Z t.0 U) same_z ∙ ap (made z.0 t.0) same ∙ m.2) (
           (tt, tt),
-          λ all. morphism_shown q g fine c (record { degree = F.0.degree; generators = F.0.generators }) F.1.0 (morphism_named r g b B U t.0 f t.1 all.0),
+          λ all. morphism_shown q g ls fine c (record { degree = F.0.degree; generators = F.0.generators; behind = F.0.behind }) F.1.0 (morphism_named r g b B U t.0 f t.1 all.0),
         )
 
     -- ---- `chain`, `grows` and `stable`
-    pub on_chain : (s : ℕ) (b : Block) → FactsAt q g (places.chain s) (Some b) → (P : Part) → fits P ≡ true → (n x w : ℕ) (cs : List Condition)
+    pub on_chain : (s : ℕ) (b : Block) → FactsAt q g ls (places.chain s) (Some b) → (P : Part) → fits P ≡ true → (n x w : ℕ) (cs : List Condition)
         → (numbered b.morphism 1 >>= λ U. numbered (b.kernels ++ P ∷ []) (suc s) >>= λ K. numbered (b.kernels ++ P ∷ []) (suc (suc s)) >>= λ next.
         generated r g (add_kernel b P) parts logs (λ log X W. preimage log U (twist K 1) next X W) n x w []) ≡ Some cs
         → Shown (places.turn s) (Some (add_kernel b P)) cs
@@ -250,10 +246,10 @@ module _ (q : Problem) (g : Goal) (fine : IsFineAim g.degree g.aim) where
         let G = generated_is c (λ log X W. preimage log C.U (twist k.0 1) P X W) n x w [] cs (ap (λ U. after U k.0 P) same_u ∙ ap (after u.0 k.0) same ∙ m.2) in
         subst (Shown (places.turn s) (Some c)) G.is (
           (G.sound_log, tt),
-          λ all. (record { degree = F.0.degree; generators = F.0.generators }, (F.1.0, chain_named r g s b C P k.0 f old (all.0).0 (all.0).1)),
+          λ all. (record { degree = F.0.degree; generators = F.0.generators; behind = F.0.behind }, (F.1.0, chain_named r g s b C P k.0 f old (all.0).0 (all.0).1)),
         )
 
-    pub on_grows : (s : ℕ) (b : Block) → FactsAt q g (places.turn s) (Some b) → (n c : ℕ) (by : List ℕ) (cs : List Condition)
+    pub on_grows : (s : ℕ) (b : Block) → FactsAt q g ls (places.turn s) (Some b) → (n c : ℕ) (by : List ℕ) (cs : List Condition)
         → (numbered b.kernels (suc s) >>= λ K. numbered b.kernels (suc (suc s)) >>= λ next. excluded r g b parts logs 0 K next n c by) ≡ Some cs → Shown (places.chain (suc s)) (Some b) cs
     on_grows s b F n c by cs e =
         let k = followed (numbered b.kernels (suc s)) (λ K. numbered b.kernels (suc (suc s)) >>= λ next. excluded r g b parts logs 0 K next n c by) cs e in
@@ -264,146 +260,15 @@ module _ (q : Problem) (g : Goal) (fine : IsFineAim g.degree g.aim) where
           λ all. (F.0, (F.1.0, chain_grows r g s c b F.1.1 k.0 m.0 k.1 m.1 X.some X.few (all.0 X.some X.few))),
         )
 
-    pub on_stable : (s : ℕ) (b : Block) → FactsAt q g (places.turn s) (Some b) → (w : ℕ) (cs : List Condition)
+    pub on_stable : (s : ℕ) (b : Block) → FactsAt q g ls (places.turn s) (Some b) → (w : ℕ) (cs : List Condition)
         → (numbered b.kernels (suc s) >>= λ K. numbered b.kernels (suc (suc s)) >>= λ next. option_map (λ W. equal next (times K W) ∷ agreeing (told_moves g.aim) s) (numbered parts w)) ≡ Some cs
-        → HaveSoundLogs r cs × (AllSay r cs → Repeating r g s b × FactsAt q g (after_stable g.aim s) (Some b))
+        → HaveSoundLogs r cs × (AllSay r cs → Repeating r g s b × FactsAt q g ls (after_stable g.aim s) (Some b))
     on_stable s b F w cs e =
         let made = λ (K next W : Part). equal next (times K W) ∷ agreeing (told_moves g.aim) s in
         let k = followed (numbered b.kernels (suc s)) (λ K. numbered b.kernels (suc (suc s)) >>= λ next. option_map (made K next) (numbered parts w)) cs e in
         let m = followed (numbered b.kernels (suc (suc s))) (λ next. option_map (made k.0 next) (numbered parts w)) cs k.2 in
         let v = mapped (made k.0 m.0) (numbered parts w) cs m.2 in
-        subst (λ cs. HaveSoundLogs r cs × (AllSay r cs → Repeating r g s b × FactsAt q g (after_stable g.aim s) (Some b))) v.2 (
+        subst (λ cs. HaveSoundLogs r cs × (AllSay r cs → Repeating r g s b × FactsAt q g ls (after_stable g.aim s) (Some b))) v.2 (
           (tt, agreeing_sound r (told_moves g.aim) s),
-          λ all. let R = chain_repeats r g s b F.1.1 k.0 m.0 v.0 k.1 m.1 all.0 in (R, stable_shown q g fine b F.0 s F.1.0 (told_last r (told_moves g.aim) s all.1) R),
-        )
-
-    -- ---- after a chain
-    pub on_whole : (t : ℕ) (b : Block) → FactsAt q g (places.whole t) (Some b) → (w : ℕ) (cs : List Condition)
-        → (numbered b.kernels (suc t) >>= λ K. option_map (λ W. equal (times K W) (unit_part r (rows_of K)) ∷ []) (numbered parts w)) ≡ Some cs → Shown places.end (Some b) cs
-    on_whole t b F w cs e =
-        let made = λ (K W : Part). equal (times K W) (unit_part r (rows_of K)) ∷ [] in
-        let k = followed (numbered b.kernels (suc t)) (λ K. option_map (made K) (numbered parts w)) cs e in
-        let v = mapped (made k.0) (numbered parts w) cs k.2 in
-        subst (Shown places.end (Some b)) v.2 (
-          (tt, tt),
-          λ all. (zero_limit g.degree (ideal_of r g b) true t, ap (λ x. stated_of r g x (Some b)) F.1.0, zero_yes r g t b F.1.1 k.0 v.0 k.1 all.0),
-        )
-
-    pub on_proper : (t : ℕ) (b : Block) → FactsAt q g (places.proper t) (Some b) → (n c : ℕ) (by : List ℕ) (cs : List Condition)
-        → (numbered b.kernels (suc t) >>= λ K. excluded r g b parts logs 0 K (unit_part r (rows_of K)) n c by) ≡ Some cs → Shown places.end (Some b) cs
-    on_proper t b F n c by cs e =
-        let k = followed (numbered b.kernels (suc t)) (λ K. excluded r g b parts logs 0 K (unit_part r (rows_of K)) n c by) cs e in
-        let X = excluded_is b 0 k.0 (unit_part r (rows_of k.0)) n c by cs k.2 in
-        subst (Shown places.end (Some b)) X.is (
-          (X.sound_log, tt),
-          λ all. (zero_limit g.degree (ideal_of r g b) false t, ap (λ x. stated_of r g x (Some b)) F.1.0, zero_no r g t b F.1.1 k.0 X.log c by k.1 X.some X.few all.0),
-        )
-
-    pub on_coordinates : (t : ℕ) (b : Block) → FactsAt q g (places.coordinates t) (Some b) → (w : Part) → fits w ≡ true → (cs : List Condition)
-        → option_map (λ Z. equal (times (twist Z (stage_of g.aim)) w) (column_part (class_of g.aim)) ∷ []) (numbered b.cocycles 1) ≡ Some cs → Shown (after_coordinates g.aim w t) (Some b) cs
-    on_coordinates t b F w f cs e =
-        let made = λ (Z : Part). equal (times (twist Z (stage_of g.aim)) w) (column_part (class_of g.aim)) ∷ [] in
-        let z = mapped made (numbered b.cocycles 1) cs e in
-        subst (Shown (after_coordinates g.aim w t) (Some b)) z.2 (
-          (tt, tt),
-          λ all. coordinates_shown q g fine b F.0 w t F.1.0 (F.1.1, coordinates_are r g t b F.1.1 (stage_of g.aim) (class_of g.aim) w z.0 f z.1 all.0),
-        )
-
-    pub on_dies : (w : Part) (t m : ℕ) (b : Block) → FactsAt q g (places.dies w t m) (Some b) → (x : ℕ) (cs : List Condition)
-        → (numbered b.kernels (suc m) >>= λ K. option_map (λ W. equal w (times (twist K (stage_of g.aim)) W) ∷ []) (numbered parts x)) ≡ Some cs → Shown places.end (Some b) cs
-    on_dies w t m b F x cs e =
-        let made = λ (K W : Part). equal w (times (twist K (stage_of g.aim)) W) ∷ [] in
-        let k = followed (numbered b.kernels (suc m)) (λ K. option_map (made K) (numbered parts x)) cs e in
-        let v = mapped (made k.0) (numbered parts x) cs k.2 in
-        let L = F.1.3 in
-        subst (Shown places.end (Some b)) v.2 (
-          (tt, tt),
-          λ all. (
-            zero_class g.degree (ideal_of r g b) F.1.0 (meant r F.1.1) (Some (F.1.0 + m)),
-            ap (λ x. stated_of r g x (Some b)) F.1.2,
-            dies_right r g t b L.0 F.1.0 F.1.1 m w k.0 v.0 F.1.4 L.1 F.1.5 k.1 (subst (λ e. Says r (equal w (times (twist k.0 e) v.0))) (ap stage_of F.1.2) all.0),
-          ),
-        )
-
-    pub on_lives_on : (w : Part) (t : ℕ) (b : Block) → FactsAt q g (places.lives_on w t) (Some b) → (n : ℕ) (by : List ℕ) (cs : List Condition)
-        → (numbered b.kernels (suc t) >>= λ K. excluded r g b parts logs (stage_of g.aim) K w n 1 by) ≡ Some cs → Shown places.end (Some b) cs
-    on_lives_on w t b F n by cs e =
-        let k = followed (numbered b.kernels (suc t)) (λ K. excluded r g b parts logs (stage_of g.aim) K w n 1 by) cs e in
-        let X = excluded_is b (stage_of g.aim) k.0 w n 1 by cs k.2 in
-        let L = F.1.3 in
-        subst (Shown places.end (Some b)) X.is (
-          (X.sound_log, tt),
-          λ all. (
-            zero_class g.degree (ideal_of r g b) F.1.0 (meant r F.1.1) None,
-            ap (λ x. stated_of r g x (Some b)) F.1.2,
-            lives_right r g t b L.0 F.1.0 F.1.1 w k.0 X.log by L.1 k.1 (subst (λ e. Says r (outside X.log e k.0 w 1 by)) (ap stage_of F.1.2) all.0),
-          ),
-        )
-
-    pub on_lives : (w : Part) (t k : ℕ) (b : Block) → FactsAt q g (places.lives w t k) (Some b) → (n : ℕ) (by : List ℕ) (cs : List Condition)
-        → lives_before r g b parts logs w t k n by ≡ Some cs → Shown (places.dies w t (suc k)) (Some b) cs
-    on_lives w t k b F n by cs e = go (nat_lt k t) refl e
-      where
-        go : (x : Bool) → nat_lt k t ≡ x → (if x then (numbered b.kernels (suc k) >>= λ K. excluded r g b parts logs (stage_of g.aim) K w n 1 by)
-            else (numbered b.kernels (suc t) >>= λ K. option_map (λ (cs : List Condition). never ∷ []) (excluded r g b parts logs (stage_of g.aim) K w n 1 by))) ≡ Some cs
-            → Shown (places.dies w t (suc k)) (Some b) cs
-        go true l h =
-            let a = followed (numbered b.kernels (suc k)) (λ K. excluded r g b parts logs (stage_of g.aim) K w n 1 by) cs h in
-            let X = excluded_is b (stage_of g.aim) a.0 w n 1 by cs a.2 in
-            let L = F.1.3 in
-            let few = ltb-true k t l in
-            subst (Shown (places.dies w t (suc k)) (Some b)) X.is (
-              (X.sound_log, tt),
-              λ all. (
-                F.0,
-                (
-                  F.1.0,
-                  F.1.1,
-                  F.1.2,
-                  L,
-                  omega (arith, few),
-                  λ j s.
-                      let same : k ≡ j = omega (arith, s) in
-                      subst (λ j. ¬ (IsIn r g t b L.0 F.1.0 F.1.1 j w)) same
-                      (outside_kernel r g t b L.0 F.1.0 F.1.1 k w a.0 X.log by L.1 a.1 (subst (λ e. Says r (outside X.log e a.0 w 1 by)) (ap stage_of F.1.2) all.0)),
-                ),
-              ),
-            )
-        go false l h =
-            let a = followed (numbered b.kernels (suc t)) (λ K. option_map (λ (cs : List Condition). never ∷ []) (excluded r g b parts logs (stage_of g.aim) K w n 1 by)) cs h in
-            let m = mapped (λ (cs : List Condition). never ∷ []) (excluded r g b parts logs (stage_of g.aim) a.0 w n 1 by) cs a.2 in
-            subst (Shown (places.dies w t (suc k)) (Some b)) m.2 ((tt, tt), λ all. absurd all.0)
-
-    -- ---- membership
-    pub on_row : FactsAt q g places.ideal_row None → (d : Part) (cs : List Condition) → Some (equal d (row_part g.generators) ∷ []) ≡ Some cs → Shown (after_row g.aim d) None cs
-    on_row F d cs e = subst (Shown (after_row g.aim d) None) (same_some e) ((tt, tt), λ all. by_answer F.1 F.2 all.0)
-      where
-        by_answer : (inside : Bool) → g.aim ≡ aims.membership F.0 inside → Says r (equal d (row_part g.generators)) → FactsAt q g (after_row g.aim d) None
-        by_answer true a h = subst (λ x. FactsAt q g (after_row x d) None) (sym a) (F.0, a, h)
-        by_answer false a h = subst (λ x. FactsAt q g (after_row x d) None) (sym a) (F.0, a, h)
-
-    pub on_cofactors : (d : Part) → FactsAt q g (places.cofactors d) None → (x : ℕ) (cs : List Condition)
-        → option_map (λ W. equal (times d W) (column_part (member_of g.aim)) ∷ []) (numbered parts x) ≡ Some cs → Shown places.end None cs
-    on_cofactors d F x cs e =
-        let v = mapped (λ W. equal (times d W) (column_part (member_of g.aim)) ∷ []) (numbered parts x) cs e in
-        subst (Shown places.end None) v.2 (
-          (tt, tt),
-          λ all. (
-            member (meant r g.generators) (meaning r (F.0).terms) true,
-            ap (λ x. stated_of r g x None) F.1,
-            member_yes r g.generators F.0 d v.0 F.2 (subst (λ z. Says r (equal (times d v.0) (column_part z))) (ap member_of F.1) all.0),
-          ),
-        )
-
-    pub on_foreign : (d : Part) → FactsAt q g (places.foreign d) None → (b : Block) (n : ℕ) (by : List ℕ) (cs : List Condition)
-        → excluded r g b parts logs 0 d (column_part (member_of g.aim)) n 1 by ≡ Some cs → Shown places.end None cs
-    on_foreign d F b n by cs e =
-        let X = excluded_is b 0 d (column_part (member_of g.aim)) n 1 by cs e in
-        subst (Shown places.end None) X.is (
-          (X.sound_log, tt),
-          λ all. (
-            member (meant r g.generators) (meaning r (F.0).terms) false,
-            ap (λ x. stated_of r g x None) F.1,
-            member_no r g.generators F.0 d X.log by F.2 (subst (λ z. Says r (outside X.log 0 d (column_part z) 1 by)) (ap member_of F.1) all.0),
-          ),
+          λ all. let R = chain_repeats r g s b F.1.1 k.0 m.0 v.0 k.1 m.1 all.0 in (R, stable_shown q g ls fine b F.0 s F.1.0 (told_last r (told_moves g.aim) s all.1) R),
         )

@@ -21,7 +21,7 @@ use Rattle.fm_judge.proofs.Options.{same_some, mapped}
 use Rattle.fm_judge.proofs.Goods.{AreGood, good_append, good_at, value_at, values_append, renamed, rows_are, columns_are}
 use Rattle.fm_judge.proofs.Resolving.{Told, Ds, Exact, resolution_is}
 
-empty : {A : Type 0} (xs : List A) → length xs ≡ 0 → xs ≡ []
+pub empty : {A : Type 0} (xs : List A) → length xs ≡ 0 → xs ≡ []
 empty [] e = refl
 empty (x ∷ xs) e = absurd (omega (arith, e))
 

@@ -31,6 +31,13 @@ last_number {A} (z ∷ xs) y x k n e = go (nat_eq k 1) refl e (last_number xs y 
     go true t h later = let o = eqb-true k 1 t in absurd (omega (arith, o, n))
     go false t h later = later h
 
+pub later_number : {A : Type 0} (xs : List A) (y x : A) (j : ℕ) → numbered (y ∷ xs) (suc (suc j)) ≡ Some x → numbered xs (suc j) ≡ Some x
+later_number xs y x j e = go (nat_eq (suc (suc j)) 1) refl e
+  where
+    go : (b : Bool) → nat_eq (suc (suc j)) 1 ≡ b → (if b then Some y else numbered xs (suc (suc j) - 1)) ≡ Some x → numbered xs (suc j) ≡ Some x
+    go true t h = let o = eqb-true (suc (suc j)) 1 t in absurd (omega (arith, o))
+    go false t h = let one : suc (suc j) - 1 ≡ suc j = omega arith in subst (λ k. numbered xs k ≡ Some x) one h
+
 -- and what had a number before has it still
 pub earlier_number : {A : Type 0} (xs : List A) (y x : A) (k : ℕ) → k < suc (length xs) → numbered (xs ++ y ∷ []) k ≡ Some x → numbered xs k ≡ Some x
 earlier_number [] y x k l e = go (nat_eq k 1) refl e

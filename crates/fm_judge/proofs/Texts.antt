@@ -9,7 +9,8 @@ use Rattle.fm_report.specs.Reading.{lines_from, line_in, said_of, states, sheet_
 use Rattle.fm_report.specs.Holding.{AllHold, VerdictsHold}
 use Rattle.fm_parts.specs.Replays.{Reason}
 use Rattle.fm_judge.specs.Judging.{State, start, judged_line, judged_read, unread, without_exponents, step, Counts, at_line, judged_lines, unended_from, all_lines, judgement}
-use Rattle.fm_judge.proofs.Steps.{Kept, line_outcome}
+use Rattle.fm_judge.proofs.Kept.{Kept}
+use Rattle.fm_judge.proofs.Steps.{line_outcome}
 
 hold_append : (xs ys : List Stated) → AllHold xs → AllHold ys → AllHold (xs ++ ys)
 hold_append [] ys h k = k

@@ -2,11 +2,12 @@
 use Rattle.std.proofs.Common.{◌≡◌, ℕ, zero, suc, ◌<◌, ◌≤◌, true, false, List, [], ◌∷◌, length, Some, refl, sym, ap, ◌∙◌, subst, subst₂, arith}
 use Rattle.std.proofs.lemmas.Bool.{false≢true}
 use Rattle.std.proofs.lemmas.List.{length-map}
-use Rattle.fm_algebra.specs.PolynomialMatrices.{InImage, matrix_unit}
+use Rattle.fm_algebra.specs.Polynomials.{Polynomial}
+use Rattle.fm_algebra.specs.PolynomialMatrices.{HasShape, InImage, matrix_unit, matrix_scalar}
 use Rattle.fm_limit.specs.ResolvedIdeal.{matrix_at, InIdeal}
 use Rattle.fm_limit.specs.Facts.{ColumnsInImage, IsEverything}
 use Rattle.fm_limit.specs.Verdicts.{Verdict, RestsOn, Holds, zero_limit, root, member, ext}
-use Rattle.fm_limit.proofs.MatrixWords.{unit_fits, shape_columns}
+use Rattle.fm_limit.proofs.MatrixWords.{scalar_fits, shape_columns}
 use Rattle.fm_limit.proofs.VerdictLaws.{zero_verdict, root_verdict}
 use Rattle.fm_poly.specs.Polys.{PolyValue, meaning}
 use Rattle.fm_poly.specs.declared.ring.Ring.{Ring}
@@ -19,20 +20,24 @@ use Rattle.fm_report.specs.Verdicts.{part_at, root_of, ext_of}
 use Rattle.fm_parts.specs.Shapes.{rows_of, columns_of, fits}
 use Rattle.fm_parts.specs.Conditions.{Log, equal, outside}
 use Rattle.fm_parts.specs.Meanings.{Says}
+use Rattle.fm_parts.proofs.Shapes.{part_shape}
 use Rattle.fm_judge.specs.Goals.{Goal, told_generators, told_relations}
-use Rattle.fm_judge.specs.Claims.{unit_part, row_part, column_part}
+use Rattle.fm_judge.specs.Claims.{printed_part, unit_part, scalar_part, row_part, column_part}
 use Rattle.fm_judge.proofs.Goods.{good_at, value_at, rows_are, columns_are}
 use Rattle.fm_judge.proofs.Resolving.{Told, row_means}
 use Rattle.fm_judge.proofs.Lifting.{Presented, ideal_of}
-use Rattle.fm_judge.proofs.Chains.{Kernels, Repeating, multiple_columns, not_all_inside}
+use Rattle.fm_judge.proofs.Chains.{Kernels, Repeating, multiple_columns, not_inside, not_all_inside}
 
 -- the verdict holds, on what it rests on
 abbrev pub IsRight : (r : Ring) → Verdict r.prime r.vars → Type 0
 IsRight r v = RestsOn r.prime r.vars v × Holds r.prime r.vars v
 
--- the columns of a unit matrix, as the tables have it
-pub unit_columns : (r : Ring) (n : ℕ) → columns_of (unit_part r n) ≡ n
-unit_columns r n = length-map (matrix_unit r.prime r.vars n).columns (printed_vector r) ∙ shape_columns r.prime r.vars n n (matrix_unit r.prime r.vars n) (unit_fits r.prime r.vars n)
+-- the columns of a matrix, as the tables have it; and those of a polynomial times the unit matrix
+pub printed_columns : (r : Ring) (A : MatrixOf r) → columns_of (printed_part r A) ≡ length A.columns
+printed_columns r A = length-map A.columns (printed_vector r)
+
+pub scalar_columns : (r : Ring) (a : Polynomial r.prime r.vars) (n : ℕ) → columns_of (scalar_part r a n) ≡ n
+scalar_columns r a n = printed_columns r (matrix_scalar r.prime r.vars a n) ∙ shape_columns r.prime r.vars n n (matrix_scalar r.prime r.vars a n) (scalar_fits r.prime r.vars a n)
 
 module _ (r : Ring) where
   -- im K is everything, where K times W is the unit matrix
@@ -43,16 +48,24 @@ module _ (r : Ring) where
       subst₂ (ColumnsInImage r.prime r.vars) (sym is) (ap (matrix_unit r.prime r.vars) (sym rows))
       (multiple_columns r K W (matrix_unit r.prime r.vars (rows_of K)) h.0 (sym (h.4 ∙ matrix_means r (matrix_unit r.prime r.vars (rows_of K)))))
 
-  -- it is not, where a column of the unit matrix lies outside
+  -- not all columns of a matrix are inside, where one lies outside
+  pub columns_outside : (m k : ℕ) (log : Log) (K : Part) (B : MatrixOf r) (c : ℕ) (by : List ℕ) → HasShape r.prime r.vars m k (part_value r K) → 0 < c → c ≤ columns_of (printed_part r B)
+      → Says r (outside log 0 K (printed_part r B) c by) → ¬ (ColumnsInImage r.prime r.vars (part_value r K) B)
+  columns_outside m k log K B c by s some few h all =
+      let u = matrix_means r B in
+      let wide : length (part_value r (printed_part r B)).columns ≡ columns_of (printed_part r B) = ap (λ (A : MatrixOf r). length A.columns) u ∙ sym (printed_columns r B) in
+      not_inside r m k (part_value r K) (part_value r (printed_part r B)) c s some (omega (arith, few, wide)) (h some few) (subst (ColumnsInImage r.prime r.vars (part_value r K)) (sym u) all)
+
+  pub column_outside : (log : Log) (K : Part) (B : MatrixOf r) (c : ℕ) (by : List ℕ) → fits K ≡ true → 0 < c → c ≤ columns_of (printed_part r B) → Says r (outside log 0 K (printed_part r B) c by)
+      → ¬ (ColumnsInImage r.prime r.vars (part_value r K) B)
+  column_outside log K B c by f = columns_outside (rows_of K) (columns_of K) log K B c by (part_shape r K f)
+
+  -- im K is not everything, where a column of the unit matrix lies outside
   pub proper_not_everything : (log : Log) (K : Part) (A : MatrixOf r) (c : ℕ) (by : List ℕ) → A ≡ part_value r K → fits K ≡ true → 0 < c → c ≤ columns_of (unit_part r (rows_of K))
       → Says r (outside log 0 K (unit_part r (rows_of K)) c by) → ¬ (IsEverything r.prime r.vars A)
   proper_not_everything log K A c by is f some few h all =
-      let n = rows_of K in
-      let rows : A.rows ≡ n = ap (λ (B : MatrixOf r). B.rows) is ∙ sym (rows_are r K f) in
-      let u = matrix_means r (matrix_unit r.prime r.vars n) in
-      let wide : length (part_value r (unit_part r n)).columns ≡ n = ap (λ (B : MatrixOf r). length B.columns) u ∙ shape_columns r.prime r.vars n n (matrix_unit r.prime r.vars n) (unit_fits r.prime r.vars n) in
-      not_all_inside r K (part_value r (unit_part r n)) c f some (let e = unit_columns r n in omega (arith, e, few, wide)) (h some few)
-      (subst₂ (ColumnsInImage r.prime r.vars) is (ap (matrix_unit r.prime r.vars) rows ∙ sym u) all)
+      let rows : A.rows ≡ rows_of K = ap (λ (B : MatrixOf r). B.rows) is ∙ sym (rows_are r K f) in
+      column_outside log K (matrix_unit r.prime r.vars (rows_of K)) c by f some few h (subst₂ (ColumnsInImage r.prime r.vars) is (ap (matrix_unit r.prime r.vars) rows) all)
 
   -- ---- membership
   pub member_yes : (fs : List PolyValue) (f : PolyValue) (d W : Part) → Says r (equal d (row_part fs)) → Says r (equal (times d W) (column_part (f ∷ []))) → IsRight r (member (meant r fs) (meaning r f.terms) true)
@@ -74,6 +87,9 @@ module _ (r : Ring) where
 module _ (r : Ring) (g : Goal) (t : ℕ) (b : Block) (R : Repeating r g t b) where
   abbrev A : MatrixOf r
   A = matrix_at r.prime r.vars (Kernels r g b) t
+
+  pub stable_rows : (P : Part) → numbered b.kernels (suc t) ≡ Some P → rows_of P ≡ A.rows
+  stable_rows P i = rows_are r P (good_at b.kernels (suc t) P R.chained.good i) ∙ ap (λ (B : MatrixOf r). B.rows) (sym (value_at r b.kernels t P i).1)
 
   -- ---- zero
   pub zero_yes : (K W : Part) → numbered b.kernels (suc t) ≡ Some K → Says r (equal (times K W) (unit_part r (rows_of K))) → IsRight r (zero_limit g.degree (ideal_of r g b) true t)

@@ -23,8 +23,8 @@ use Rattle.fm_parts.specs.Shapes.{SIZE, rows_of, columns_of, fits, is_shallow}
 use Rattle.fm_parts.specs.Values.{is_within_bound}
 use Rattle.fm_parts.specs.Replays.{Reason, Truncated, Form, Exponents, Reference, Shape, Depth, Value, BadLog, needs, Replay, nothing_replayed, replay_entry, graph_inputs, is_whole}
 use Rattle.fm_parts.specs.Conditions.{Log, judged}
-use Rattle.fm_judge.specs.Goals.{Goal, goal_of}
-use Rattle.fm_judge.specs.Places.{Place, datum, differential, end, first_place}
+use Rattle.fm_judge.specs.Goals.{Goal, goal_of, target_goal}
+use Rattle.fm_judge.specs.Places.{Place, datum, datum_beyond, differential, end, first_place}
 use Rattle.fm_judge.specs.Claims.{Claim, claim}
 use Rattle.fm_judge.specs.Tasks.{may_end}
 
@@ -144,7 +144,7 @@ abbrev pub names_ideal : Option Problem → Bytes → Bool
 names_ideal None name = false
 names_ideal (Some q) name = is_some (place 0 name (ideal_names q))
 
--- `datum NAME I`: an ideal of the head, and the goal's, with its degree
+-- `datum NAME I`: an ideal of the head, and the goal's, with its degree; this goal is shown from there on
 abbrev pub datum_line : State → Goal → Bytes → ℕ → Result State Reason
 datum_line s g name i =
     needs (names_ideal s.sheet.head name) Reference >>= λ _. needs (same_bytes name g.name && nat_eq i g.degree) Value >>= λ _.
@@ -167,6 +167,7 @@ place_line s g p kind v =
 
 abbrev pub datum_place : State → Goal → Place → Bytes → ℕ → Result State Reason
 datum_place s g datum name i = datum_line s g name i
+datum_place s g (datum_beyond t) name i = datum_line s (target_goal g (block_at s.sheet.block) t) name i
 datum_place s g p name i = Err Form
 
 abbrev pub certificate_line : State → Goal → Place → (kind : Kind) → Values (row kind) → Result State Reason

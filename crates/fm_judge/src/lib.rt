@@ -8,6 +8,8 @@
 //   Judging  step: the judgement of one line by what stands before it; judgement: of a text; IsValid
 // The laws (src/laws.rt):
 //   valid_texts_state_verdicts_that_hold   what a valid text states holds in the limit
+//   a_small_text_is_valid, short_texts_are_judged, lines_on_inverting_are_judged, lines_on_the_support_are_judged, lines_on_a_map_are_judged
+//                                          texts and lines with their judgements, computed
 #![tactic(auto)]
 
 pub mod laws;

@@ -216,9 +216,6 @@ fn products(rt: HostRuntime) -> Result<(), Fail> {
     let x: &[Listed] = &[([1, 0], 1)];
     let y: &[Listed] = &[([0, 1], 1)];
     let xy: &[Listed] = &[([1, 1], 1)];
-    let one: &[Listed] = &[([0, 0], 1)];
-    let two: &[Listed] = &[([0, 0], 2)];
-    let zero: &[Listed] = &[];
     let x_plus_y: &[Listed] = &[([1, 0], 1), ([0, 1], 1)];
     let squares: &[Listed] = &[([2, 0], 1), ([0, 2], 1)];
     assert!(rt;
@@ -239,6 +236,18 @@ fn products(rt: HostRuntime) -> Result<(), Fail> {
             (1, &[&[squares]])
         )?
     );
+    Ok(())
+}
+
+#[test]
+fn products_of_two_rows(rt: HostRuntime) -> Result<(), Fail> {
+    let alloc = rt.alloc();
+    let x: &[Listed] = &[([1, 0], 1)];
+    let y: &[Listed] = &[([0, 1], 1)];
+    let xy: &[Listed] = &[([1, 1], 1)];
+    let one: &[Listed] = &[([0, 0], 1)];
+    let two: &[Listed] = &[([0, 0], 2)];
+    let zero: &[Listed] = &[];
     let twice_x: &[Listed] = &[([1, 0], 2)];
     let twice_y: &[Listed] = &[([0, 1], 2)];
     let xy_plus_two: &[Listed] = &[([1, 1], 1), ([0, 0], 2)];
@@ -251,6 +260,16 @@ fn products(rt: HostRuntime) -> Result<(), Fail> {
             (2, &[&[twice_x, xy_plus_two], &[xy, twice_y]])
         )?
     );
+    Ok(())
+}
+
+#[test]
+fn products_where_coefficients_cancel(rt: HostRuntime) -> Result<(), Fail> {
+    let alloc = rt.alloc();
+    let x: &[Listed] = &[([1, 0], 1)];
+    let y: &[Listed] = &[([0, 1], 1)];
+    let xy: &[Listed] = &[([1, 1], 1)];
+    let zero: &[Listed] = &[];
     let minus_x: &[Listed] = &[([1, 0], 30)];
     let minus_y: &[Listed] = &[([0, 1], 30)];
     assert!(rt;
@@ -271,6 +290,14 @@ fn products(rt: HostRuntime) -> Result<(), Fail> {
             (1, &[&[zero]])
         )?
     );
+    Ok(())
+}
+
+#[test]
+fn products_without_rows_or_columns(rt: HostRuntime) -> Result<(), Fail> {
+    let alloc = rt.alloc();
+    let x: &[Listed] = &[([1, 0], 1)];
+    let zero: &[Listed] = &[];
     assert!(rt;
         times_is(
             alloc,

@@ -11,7 +11,7 @@ use Rattle.fm_poly.specs.Polys.{PolyValue}
 use Rattle.fm_words.specs.Parts.{Bytes}
 use Rattle.fm_words.specs.Lines.{NumberedLine, lines_of, end_of}
 use Rattle.fm_problem.specs.declared.fault_kind.FaultKind.{FaultKind}
-use Rattle.fm_problem.specs.declared.fault_kind.FaultKind.TheVariants.{Syntax, Repeated, NotPrime, Limit, NotBuilt}
+use Rattle.fm_problem.specs.declared.fault_kind.FaultKind.TheVariants.{Syntax, Repeated, NotPrime, Limit}
 use Rattle.fm_problem.specs.Limits.{longest_name, most_ideals, most_generators, most_queries, greatest_exponent}
 use Rattle.fm_problem.specs.declared.keyword.Question.{Question}
 use Rattle.fm_problem.specs.declared.keyword.Question.TheVariants.{Zero, Root, Support, Resolution, Ext}
@@ -24,7 +24,7 @@ use Rattle.fm_text.specs.Factors.{SignedText, terms_of}
 use Rattle.fm_words.specs.Steps.{◌>>=◌, steps, or_fault, place}
 use Rattle.fm_text.specs.SumOfTerms.{placed, inserted, sum_of_terms, polynomial_of_terms}
 use Rattle.fm_text.specs.Polynomials.{Rules, unsigned_term, signed_coefficient, signed_term, plus_term, written_terms}
-use Rattle.fm_problem.specs.Problems.{polynomial_in, plus_name, bare, ring_of, order_in, with_order, rules_of, Generators, unless_empty, unless_zero, plus_generator, generators_in, ideal_names, plus_ideal, with_ideal, degree_in, ideal_in, stage_in, plus_entry, vector_in, module_query, asked, is_built, query_in, plus_query, with_query, with_line, at_line, plus_line, after_second, after_ring, from_lines, problem_of}
+use Rattle.fm_problem.specs.Problems.{polynomial_in, plus_name, bare, ring_of, order_in, with_order, rules_of, Generators, unless_empty, unless_zero, plus_generator, generators_in, ideal_names, plus_ideal, with_ideal, degree_in, ideal_in, stage_in, plus_entry, vector_in, module_query, query_in, plus_query, with_query, with_line, at_line, plus_line, after_second, after_ring, from_lines, problem_of}
 use Rattle.fm_problem.specs.Statements.{Statement, RingLine, OrderLine, IdealLine, ModuleLine, ClassLine, InvertLine, MapLine, MemberLine, statement_of}
 use Rattle.fm_gfp.specs.Primes.{prime_of}
 use Rattle.fm_words.proofs.FirstFaults.{no_fault, same_ok, first_read, steps_keep, passed, not_failed}
@@ -139,40 +139,34 @@ module_within Support i k = tt
 module_within Resolution i k = tt
 module_within Ext i k = tt
 
-asked_within : (q : Problem) (s : Statement) (z : Query) → asked q s ≡ Ok z → IsSmallQuery z
-asked_within q (RingLine p names) z h = absurd (no_fault Syntax z h)
-asked_within q (OrderLine o) z h = absurd (no_fault Syntax z h)
-asked_within q (IdealLine n texts) z h = absurd (no_fault Syntax z h)
-asked_within q (ModuleLine a i n) z h =
+query_within : (q : Problem) (s : Statement) (z : Query) → query_in q s ≡ Ok z → IsSmallQuery z
+query_within q (RingLine p names) z h = absurd (no_fault Syntax z h)
+query_within q (OrderLine o) z h = absurd (no_fault Syntax z h)
+query_within q (IdealLine n texts) z h = absurd (no_fault Syntax z h)
+query_within q (ModuleLine a i n) z h =
     let d = first_read (degree_in q i) (λ i. ideal_in q n >>= λ k. Ok (module_query a i k)) z h in
     let k = first_read (ideal_in q n) (λ k. Ok (module_query a d.0 k)) z d.2 in
     subst IsSmallQuery (same_ok k.2) (module_within a d.0 k.0)
-asked_within q (ClassLine i n e texts) z h =
+query_within q (ClassLine i n e texts) z h =
     let d = first_read (degree_in q i) (λ i. ideal_in q n >>= λ k. (stage_in e >>= λ e. (vector_in (rules_of q) texts >>= λ v. Ok (queries.TheVariants.Class i k e v)))) z h in
     let k = first_read (ideal_in q n) (λ k. stage_in e >>= λ e. (vector_in (rules_of q) texts >>= λ v. Ok (queries.TheVariants.Class d.0 k e v))) z d.2 in
     let t = first_read (stage_in e) (λ e. vector_in (rules_of q) texts >>= λ v. Ok (queries.TheVariants.Class d.0 k.0 e v)) z k.2 in
     let v = first_read (vector_in (rules_of q) texts) (λ v. Ok (queries.TheVariants.Class d.0 k.0 t.0 v)) z t.2 in
     subst IsSmallQuery (same_ok v.2) (vector_within (rules_of q) written_low texts v.0 v.1)
-asked_within q (InvertLine i n text) z h =
+query_within q (InvertLine i n text) z h =
     let d = first_read (degree_in q i) (λ i. ideal_in q n >>= λ k. (polynomial_in (rules_of q) text >>= λ f. Ok (queries.TheVariants.Invert i k f))) z h in
     let k = first_read (ideal_in q n) (λ k. polynomial_in (rules_of q) text >>= λ f. Ok (queries.TheVariants.Invert d.0 k f)) z d.2 in
     let f = first_read (polynomial_in (rules_of q) text) (λ f. Ok (queries.TheVariants.Invert d.0 k.0 f)) z k.2 in
     subst IsSmallQuery (same_ok f.2) (polynomial_within (rules_of q) written_low text f.0 f.1)
-asked_within q (MapLine i n m) z h =
+query_within q (MapLine i n m) z h =
     let d = first_read (degree_in q i) (λ i. ideal_in q n >>= λ k. (ideal_in q m >>= λ j. Ok (queries.TheVariants.Map i k j))) z h in
     let k = first_read (ideal_in q n) (λ k. ideal_in q m >>= λ j. Ok (queries.TheVariants.Map d.0 k j)) z d.2 in
     let j = first_read (ideal_in q m) (λ j. Ok (queries.TheVariants.Map d.0 k.0 j)) z k.2 in
     subst IsSmallQuery (same_ok j.2) tt
-asked_within q (MemberLine n text) z h =
+query_within q (MemberLine n text) z h =
     let k = first_read (ideal_in q n) (λ k. polynomial_in (rules_of q) text >>= λ f. Ok (queries.TheVariants.Member k f)) z h in
     let f = first_read (polynomial_in (rules_of q) text) (λ f. Ok (queries.TheVariants.Member k.0 f)) z k.2 in
     subst IsSmallQuery (same_ok f.2) (polynomial_within (rules_of q) written_low text f.0 f.1)
-
-query_within : (q : Problem) (s : Statement) (z : Query) → query_in q s ≡ Ok z → IsSmallQuery z
-query_within q s z h =
-    let read = first_read (asked q s) (λ z. if is_built z then Ok z else Err NotBuilt) z h in
-    let test = passed (is_built read.0) NotBuilt (Ok read.0) z read.2 in
-    subst IsSmallQuery (same_ok test.1) (asked_within q s read.0 read.1)
 
 with_query_within : (q t : Problem) (s : Statement) → HasSmallExponents q → with_query q s ≡ Ok t → HasSmallExponents t
 with_query_within q t s w h =

@@ -13,7 +13,7 @@ use Rattle.fm_words.specs.Parts.{Bytes}
 use Rattle.fm_words.specs.Words.{is_name}
 use Rattle.fm_words.specs.Lines.{NumberedLine, lines_of, end_of}
 use Rattle.fm_problem.specs.declared.fault_kind.FaultKind.{FaultKind}
-use Rattle.fm_problem.specs.declared.fault_kind.FaultKind.TheVariants.{Syntax, UnknownName, Repeated, Range, NotPrime, Limit, NotBuilt}
+use Rattle.fm_problem.specs.declared.fault_kind.FaultKind.TheVariants.{Syntax, UnknownName, Repeated, Range, NotPrime, Limit}
 use Rattle.fm_problem.specs.Limits.{longest_name, most_ideals, most_generators, most_queries, greatest_stage}
 use Rattle.fm_problem.specs.declared.keyword.Question.{Question}
 use Rattle.fm_problem.specs.declared.keyword.Question.TheVariants.{Zero, Root, Support, Resolution, Ext}
@@ -22,7 +22,7 @@ use Rattle.fm_problem.specs.declared.ideal.Ideal.{Ideal}
 use Rattle.fm_problem.specs.declared.query.Query.{Query}
 use Rattle.fm_problem.specs.declared.query.Query as queries
 use Rattle.fm_text.specs.Polynomials.{Rules}
-use Rattle.fm_problem.specs.Problems.{polynomial_in, plus_name, bare, ring_of, order_in, with_order, rules_of, Generators, unless_empty, unless_zero, plus_generator, generators_in, ideal_names, plus_ideal, with_ideal, degree_in, ideal_in, stage_in, plus_entry, vector_in, module_query, asked, is_built, query_in, plus_query, with_query, with_line, at_line, plus_line, after_second, after_ring, from_lines, problem_of, query_of_statement, query_of}
+use Rattle.fm_problem.specs.Problems.{polynomial_in, plus_name, bare, ring_of, order_in, with_order, rules_of, Generators, unless_empty, unless_zero, plus_generator, generators_in, ideal_names, plus_ideal, with_ideal, degree_in, ideal_in, stage_in, plus_entry, vector_in, module_query, query_in, plus_query, with_query, with_line, at_line, plus_line, after_second, after_ring, from_lines, problem_of, query_of_statement, query_of}
 use Rattle.fm_problem.specs.Statements.{Statement, RingLine, OrderLine, IdealLine, ModuleLine, ClassLine, InvertLine, MapLine, MemberLine, statement_of}
 use Rattle.fm_gfp.specs.Primes.{prime_of}
 use Rattle.fm_text.specs.SumOfTerms.{IsPolynomialOf}
@@ -102,7 +102,6 @@ ideal_added q n fs sound room fresh w =
       ideals_apart = subst AreApart (sym (map-append (λ j. j.name) q.ideals (i ∷ []))) (apart_more (ideal_names q) n sound.ideals_apart (not_found 0 n (ideal_names q) fresh));
       few_queries = sound.few_queries;
       asked = All_map (IsQueryOf q) (IsQueryOf (plus_ideal q n fs)) (λ z. query_more q i z) q.queries sound.asked;
-      built = sound.built;
     }
 
 ideal_sound : (q s : Problem) (n : Bytes) (texts : List Bytes) → is_name n ≡ true → IsProblem q → with_ideal q n texts ≡ Ok s → IsProblem s
@@ -153,40 +152,34 @@ module_sound q Support i k d b = (d, b)
 module_sound q Resolution i k d b = (d, b)
 module_sound q Ext i k d b = (d, b)
 
-asked_sound : (q : Problem) (s : Statement) (z : Query) → IsProblem q → asked q s ≡ Ok z → IsQueryOf q z
-asked_sound q (RingLine p names) z sound h = absurd (no_fault Syntax z h)
-asked_sound q (OrderLine o) z sound h = absurd (no_fault Syntax z h)
-asked_sound q (IdealLine n texts) z sound h = absurd (no_fault Syntax z h)
-asked_sound q (ModuleLine a i n) z sound h =
+query_sound : (q : Problem) (s : Statement) (z : Query) → IsProblem q → query_in q s ≡ Ok z → IsQueryOf q z
+query_sound q (RingLine p names) z sound h = absurd (no_fault Syntax z h)
+query_sound q (OrderLine o) z sound h = absurd (no_fault Syntax z h)
+query_sound q (IdealLine n texts) z sound h = absurd (no_fault Syntax z h)
+query_sound q (ModuleLine a i n) z sound h =
     let d = first_read (degree_in q i) (λ i. ideal_in q n >>= λ k. Ok (module_query a i k)) z h in
     let k = first_read (ideal_in q n) (λ k. Ok (module_query a d.0 k)) z d.2 in
     subst (IsQueryOf q) (same_ok k.2) (module_sound q a d.0 k.0 (degree_sound q i d.0 d.1) (ideal_found q n k.0 k.1))
-asked_sound q (ClassLine i n e texts) z sound h =
+query_sound q (ClassLine i n e texts) z sound h =
     let d = first_read (degree_in q i) (λ i. ideal_in q n >>= λ k. (stage_in e >>= λ e. (vector_in (rules_of q) texts >>= λ v. Ok (queries.TheVariants.Class i k e v)))) z h in
     let k = first_read (ideal_in q n) (λ k. stage_in e >>= λ e. (vector_in (rules_of q) texts >>= λ v. Ok (queries.TheVariants.Class d.0 k e v))) z d.2 in
     let t = first_read (stage_in e) (λ e. vector_in (rules_of q) texts >>= λ v. Ok (queries.TheVariants.Class d.0 k.0 e v)) z k.2 in
     let v = first_read (vector_in (rules_of q) texts) (λ v. Ok (queries.TheVariants.Class d.0 k.0 t.0 v)) z t.2 in
     subst (IsQueryOf q) (same_ok v.2) (degree_sound q i d.0 d.1, ideal_found q n k.0 k.1, stage_sound e t.0 t.1, vector_sound q texts v.0 sound v.1)
-asked_sound q (InvertLine i n text) z sound h =
+query_sound q (InvertLine i n text) z sound h =
     let d = first_read (degree_in q i) (λ i. ideal_in q n >>= λ k. (polynomial_in (rules_of q) text >>= λ f. Ok (queries.TheVariants.Invert i k f))) z h in
     let k = first_read (ideal_in q n) (λ k. polynomial_in (rules_of q) text >>= λ f. Ok (queries.TheVariants.Invert d.0 k f)) z d.2 in
     let f = first_read (polynomial_in (rules_of q) text) (λ f. Ok (queries.TheVariants.Invert d.0 k.0 f)) z k.2 in
     subst (IsQueryOf q) (same_ok f.2) (degree_sound q i d.0 d.1, ideal_found q n k.0 k.1, line_polynomial_sound (rules_of q) text f.0 sound.bounded.named f.1)
-asked_sound q (MapLine i n m) z sound h =
+query_sound q (MapLine i n m) z sound h =
     let d = first_read (degree_in q i) (λ i. ideal_in q n >>= λ k. (ideal_in q m >>= λ j. Ok (queries.TheVariants.Map i k j))) z h in
     let k = first_read (ideal_in q n) (λ k. ideal_in q m >>= λ j. Ok (queries.TheVariants.Map d.0 k j)) z d.2 in
     let j = first_read (ideal_in q m) (λ j. Ok (queries.TheVariants.Map d.0 k.0 j)) z k.2 in
     subst (IsQueryOf q) (same_ok j.2) (degree_sound q i d.0 d.1, ideal_found q n k.0 k.1, ideal_found q m j.0 j.1)
-asked_sound q (MemberLine n text) z sound h =
+query_sound q (MemberLine n text) z sound h =
     let k = first_read (ideal_in q n) (λ k. polynomial_in (rules_of q) text >>= λ f. Ok (queries.TheVariants.Member k f)) z h in
     let f = first_read (polynomial_in (rules_of q) text) (λ f. Ok (queries.TheVariants.Member k.0 f)) z k.2 in
     subst (IsQueryOf q) (same_ok f.2) (ideal_found q n k.0 k.1, line_polynomial_sound (rules_of q) text f.0 sound.bounded.named f.1)
-
-pub query_sound : (q : Problem) (s : Statement) (z : Query) → IsProblem q → query_in q s ≡ Ok z → IsQueryOf q z × (is_built z ≡ true)
-query_sound q s z sound h =
-    let read = first_read (asked q s) (λ z. if is_built z then Ok z else Err NotBuilt) z h in
-    let test = passed (is_built read.0) NotBuilt (Ok read.0) z read.2 in
-    (subst (IsQueryOf q) (same_ok test.1) (asked_sound q s read.0 sound read.1), subst (λ y. is_built y ≡ true) (same_ok test.1) test.0)
 
 same_asked : (q : Problem) (z y : Query) → IsQueryOf q y → IsQueryOf (plus_query q z) y
 same_asked q z (queries.TheVariants.Zero j k) v = v
@@ -199,7 +192,7 @@ same_asked q z (queries.TheVariants.Member k f) v = v
 same_asked q z (queries.TheVariants.Resolution j k) v = v
 same_asked q z (queries.TheVariants.ExtOf j k) v = v
 
-query_added : (q : Problem) (z : Query) → IsProblem q → length q.queries < most_queries → IsQueryOf q z × (is_built z ≡ true) → IsProblem (plus_query q z)
+query_added : (q : Problem) (z : Query) → IsProblem q → length q.queries < most_queries → IsQueryOf q z → IsProblem (plus_query q z)
 query_added q z sound room w = let long = length-append q.queries (z ∷ []) in record {
   bounded = record { named = sound.bounded.named; some = sound.bounded.some; few = sound.bounded.few; few_ideals = sound.bounded.few_ideals };
   variables = sound.variables;
@@ -207,8 +200,7 @@ query_added q z sound room w = let long = length-append q.queries (z ∷ []) in 
   ideals = sound.ideals;
   ideals_apart = sound.ideals_apart;
   few_queries = omega (arith, room, long);
-  asked = All_map (IsQueryOf q) (IsQueryOf (plus_query q z)) (λ y. same_asked q z y) (q.queries ++ z ∷ []) (All_more (IsQueryOf q) q.queries z sound.asked w.0);
-  built = All_more (λ y. is_built y ≡ true) q.queries z sound.built w.1;
+  asked = All_map (IsQueryOf q) (IsQueryOf (plus_query q z)) (λ y. same_asked q z y) (q.queries ++ z ∷ []) (All_more (IsQueryOf q) q.queries z sound.asked w);
 }
 
 with_query_sound : (q t : Problem) (s : Statement) → IsProblem q → with_query q s ≡ Ok t → IsProblem t
@@ -247,7 +239,6 @@ begun_sound p o vs names some few = record {
   ideals_apart = tt;
   few_queries = omega arith;
   asked = λ k d below. absurd (omega (arith, below));
-  built = λ k d below. absurd (omega (arith, below));
 }
 
 -- what a ring line begins
@@ -291,7 +282,7 @@ problem_sound text q h = from_lines_sound (end_of text) (lines_of text) q h
 
 query_line_sound : (q : Problem) (s : Option Statement) (z : Query) → IsProblem q → query_of_statement q s ≡ Ok z → IsQueryOf q z
 query_line_sound q None z sound h = absurd (no_fault Syntax z h)
-query_line_sound q (Some s) z sound h = (query_sound q s z sound h).0
+query_line_sound q (Some s) z sound h = query_sound q s z sound h
 
 pub query_of_sound : (q : Problem) (line : Bytes) (z : Query) → IsProblem q → query_of q line ≡ Ok z → IsQueryOf q z
 unfolding query_of

@@ -3,7 +3,7 @@ use Rattle.std.specs.Prelude.{ℕ, List, codes, Result, Ok, Err}
 use Rattle.fm_text.specs.declared.text_fault.TextFault.{TextFault}
 use Rattle.fm_text.specs.declared.text_fault.TextFault as text_faults
 use Rattle.fm_problem.specs.declared.fault_kind.FaultKind.{FaultKind}
-use Rattle.fm_problem.specs.declared.fault_kind.FaultKind.TheVariants.{Syntax, UnknownName, Repeated, Range, NotPrime, Limit, NotBuilt}
+use Rattle.fm_problem.specs.declared.fault_kind.FaultKind.TheVariants.{Syntax, UnknownName, Repeated, Range, NotPrime, Limit}
 
 -- a fault with the number of its line
 pub record Fault : Type 0 where
@@ -18,7 +18,6 @@ fault_text Repeated = codes "repeated name"
 fault_text Range = codes "degree out of range"
 fault_text NotPrime = codes "not a listed prime"
 fault_text Limit = codes "above a limit"
-fault_text NotBuilt = codes "not built"
 
 -- the fault of a line, for that of a polynomial on it
 abbrev pub kind_of : TextFault → FaultKind

@@ -9,7 +9,7 @@ use Rattle.fm_poly.specs.declared.term.Term.{Term}
 use Rattle.fm_words.specs.Parts.{Bytes}
 use Rattle.fm_words.specs.Lines.{NumberedLine, lines_of, end_of}
 use Rattle.fm_problem.specs.declared.fault_kind.FaultKind.{FaultKind}
-use Rattle.fm_problem.specs.declared.fault_kind.FaultKind.TheVariants.{Syntax, UnknownName, Repeated, Range, NotPrime, Limit, NotBuilt}
+use Rattle.fm_problem.specs.declared.fault_kind.FaultKind.TheVariants.{Syntax, UnknownName, Repeated, Range, NotPrime, Limit}
 use Rattle.fm_problem.specs.Limits.{most_variables, longest_name, most_ideals, most_generators, most_queries, greatest_stage, greatest_exponent}
 use Rattle.fm_problem.specs.declared.keyword.Question.{Question}
 use Rattle.fm_problem.specs.declared.keyword.Question.TheVariants.{Zero, Root, Support, Resolution, Ext}
@@ -127,27 +127,18 @@ module_query Support i k = queries.TheVariants.Support i k
 module_query Resolution i k = queries.TheVariants.Resolution i k
 module_query Ext i k = queries.TheVariants.ExtOf i k
 
--- what a query line asks, whether or not it is answered yet
-abbrev pub asked : Problem → Statement → Result Query FaultKind
-asked q (RingLine p names) = Err Syntax
-asked q (OrderLine o) = Err Syntax
-asked q (IdealLine n texts) = Err Syntax
-asked q (ModuleLine a i n) = degree_in q i >>= λ i. (ideal_in q n >>= λ k. Ok (module_query a i k))
-asked q (ClassLine i n e texts) =
-    degree_in q i >>= λ i. (ideal_in q n >>= λ k. (stage_in e >>= λ e. (vector_in (rules_of q) texts >>= λ z. Ok (queries.TheVariants.Class i k e z))))
-asked q (InvertLine i n text) =
-    degree_in q i >>= λ i. (ideal_in q n >>= λ k. (polynomial_in (rules_of q) text >>= λ f. Ok (queries.TheVariants.Invert i k f)))
-asked q (MapLine i n m) = degree_in q i >>= λ i. (ideal_in q n >>= λ k. (ideal_in q m >>= λ j. Ok (queries.TheVariants.Map i k j)))
-asked q (MemberLine n text) = ideal_in q n >>= λ k. (polynomial_in (rules_of q) text >>= λ f. Ok (queries.TheVariants.Member k f))
-
--- the queries that the program answers: all but maps
-abbrev pub is_built : Query → Bool
-is_built (queries.TheVariants.Map i k j) = false
-is_built z = true
-
--- a query that isn't answered yet is a fault after every other of its line
+-- what a query line asks
 abbrev pub query_in : Problem → Statement → Result Query FaultKind
-query_in q s = asked q s >>= λ z. (if is_built z then Ok z else Err NotBuilt)
+query_in q (RingLine p names) = Err Syntax
+query_in q (OrderLine o) = Err Syntax
+query_in q (IdealLine n texts) = Err Syntax
+query_in q (ModuleLine a i n) = degree_in q i >>= λ i. (ideal_in q n >>= λ k. Ok (module_query a i k))
+query_in q (ClassLine i n e texts) =
+    degree_in q i >>= λ i. (ideal_in q n >>= λ k. (stage_in e >>= λ e. (vector_in (rules_of q) texts >>= λ z. Ok (queries.TheVariants.Class i k e z))))
+query_in q (InvertLine i n text) =
+    degree_in q i >>= λ i. (ideal_in q n >>= λ k. (polynomial_in (rules_of q) text >>= λ f. Ok (queries.TheVariants.Invert i k f)))
+query_in q (MapLine i n m) = degree_in q i >>= λ i. (ideal_in q n >>= λ k. (ideal_in q m >>= λ j. Ok (queries.TheVariants.Map i k j)))
+query_in q (MemberLine n text) = ideal_in q n >>= λ k. (polynomial_in (rules_of q) text >>= λ f. Ok (queries.TheVariants.Member k f))
 
 abbrev pub plus_query : Problem → Query → Problem
 plus_query q z = record { ring = q.ring; vars = q.vars; ideals = q.ideals; queries = q.queries ++ z ∷ [] }

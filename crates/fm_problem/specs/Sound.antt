@@ -12,7 +12,7 @@ use Rattle.fm_problem.specs.declared.problem.Problem.{Problem}
 use Rattle.fm_problem.specs.declared.ideal.Ideal.{Ideal}
 use Rattle.fm_problem.specs.declared.query.Query.{Query}
 use Rattle.fm_problem.specs.declared.query.Query as queries
-use Rattle.fm_problem.specs.Problems.{IsBounded, ideal_names, is_built}
+use Rattle.fm_problem.specs.Problems.{IsBounded, ideal_names}
 
 -- a name within the limit
 pub record IsShortName (n : Bytes) : Type 0 where
@@ -57,7 +57,6 @@ pub record IsProblem (q : Problem) : Type 0 where
   pub ideals_apart : AreApart (ideal_names q)
   pub few_queries : length q.queries ≤ most_queries
   pub asked : All (IsQueryOf q) q.queries
-  pub built : All (λ z. is_built z ≡ true) q.queries
 
 -- ---- exponents
 -- each exponent is one that can be written

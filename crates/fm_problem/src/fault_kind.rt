@@ -20,8 +20,6 @@ pub enum FaultKind {
     NotPrime,
     /// A number or a count is above a limit.
     Limit,
-    /// Queries of this kind aren't answered yet.
-    NotBuilt,
 }
 
 impl FaultKind {
@@ -36,7 +34,6 @@ impl FaultKind {
             FaultKind::Range => "degree out of range",
             FaultKind::NotPrime => "not a listed prime",
             FaultKind::Limit => "above a limit",
-            FaultKind::NotBuilt => "not built",
         }
     }
 }

@@ -1,7 +1,7 @@
 // Queries of a problem text.
 ghost use Rattle.std.specs.Prelude.{◌≡◌, OnOk};
 ghost use Rattle.fm_words.specs.Words.{value};
-ghost use Rattle.fm_problem.specs.Problems.{IsBounded, asked, degree_in, ideal_in, is_built as is_built_query, module_query as module_query_of, query_in as query_of_line, stage_in, vector_in, with_query};
+ghost use Rattle.fm_problem.specs.Problems.{IsBounded, degree_in, ideal_in, module_query as module_query_of, query_in as query_of_line, stage_in, vector_in, with_query};
 ghost use Rattle.fm_problem.specs.Statements.{entries_of};
 ghost use Rattle.fm_text.specs.Views.{FitsRules, rules_view};
 ghost use Rattle.fm_problem.specs.Views.{statement_view};
@@ -91,14 +91,14 @@ fn module_query(question: Question, i: u8, ideal: u32) -> Query
     }
 }
 
-// What a query line asks, whether or not it is answered yet.
-fn read_asked(
+/// What a query line asks.
+pub fn query_in(
     alloc: Global,
     problem: &Problem,
     statement: StatementText<'_>,
 ) -> Result<Query, ReadError<FaultKind>>
     requires { IsBounded problem.now }
-    ensures { Gives (λ z. z) result (asked problem.now (statement_view statement.entry)) }
+    ensures { Gives (λ z. z) result (query_of_line problem.now (statement_view statement.entry)) }
 {
     let rules = rules_of(problem);
     match statement {
@@ -133,32 +133,6 @@ fn read_asked(
         }
         _ => Err(ReadError::Fault(FaultKind::Syntax)),
     }
-}
-
-// Whether the program answers the query.
-fn is_built(query: &Query) -> bool
-    ensures { result ≡ is_built_query query.now }
-{
-    match query {
-        Query::Map { .. } => false,
-        _ => true,
-    }
-}
-
-/// What a query line asks.
-pub fn query_in(
-    alloc: Global,
-    problem: &Problem,
-    statement: StatementText<'_>,
-) -> Result<Query, ReadError<FaultKind>>
-    requires { IsBounded problem.now }
-    ensures { Gives (λ z. z) result (query_of_line problem.now (statement_view statement.entry)) }
-{
-    let query = read_asked(alloc, problem, statement)?;
-    if !is_built(&query) {
-        return Err(ReadError::Fault(FaultKind::NotBuilt));
-    }
-    Ok(query)
 }
 
 /// Appends the query of a query line.

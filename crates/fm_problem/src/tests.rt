@@ -36,7 +36,7 @@ const FORMS: [Row; 23] = [
     ("ring 2 x\nideal I = x +- x", 2, FaultKind::Syntax),
     ("ring 2 x\nideal I = x\nmember I-x", 3, FaultKind::Syntax),
     ("ring 2 x\nideal I = x\ninvert 1 I+x", 3, FaultKind::Syntax),
-    ("ring 2 x\nideal I = x\nmap 1 I I", 3, FaultKind::NotBuilt),
+    ("ring 2 x\nideal I = x\nmap 1 I", 3, FaultKind::Syntax),
     (
         "ring 2 x\nideal I = x\nzero 9 T extra",
         3,
@@ -304,12 +304,24 @@ fn reads_queries_alone(rt: HostRuntime) -> Result<(), Fail> {
         }
         _ => assert!(rt; false),
     }
+    let map = read_query(rt.alloc(), &problem, b"map 1 I J")?;
+    assert!(rt;
+        matches!(
+            map,
+            Query::Map {
+                i: 1,
+                source: 1,
+                target: 0
+            }
+        )
+    );
     let rows = [
         ("class 1 I 0 (1)\r", FaultKind::Syntax),
         ("# class 1 I 0 (1)", FaultKind::Syntax),
         ("  ", FaultKind::Syntax),
         ("class 1 K 0 (1)", FaultKind::UnknownName),
-        ("map 1 I J", FaultKind::NotBuilt),
+        ("map 3 K J", FaultKind::Range),
+        ("map 1 I K", FaultKind::UnknownName),
     ];
     for (line, want) in rows {
         match read_query(rt.alloc(), &problem, line.as_bytes()) {

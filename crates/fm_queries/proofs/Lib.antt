@@ -15,3 +15,8 @@ pub mod ImageRuns
 pub mod ClassRuns
 pub mod ClassTold
 pub mod Coordinates
+pub mod MapTold
+pub mod MapPlans
+pub mod MapShapes
+pub mod MapBetween
+pub mod MapAsked

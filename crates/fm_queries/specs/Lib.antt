@@ -1,3 +1,4 @@
 pub mod Bases
 pub mod Duals
 pub mod Founds
+pub mod Maps

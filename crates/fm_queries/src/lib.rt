@@ -5,11 +5,17 @@
 pub mod base;
 pub mod class;
 pub mod coboundaries;
+pub(crate) mod comparing;
 pub(crate) mod duals;
 pub mod invert;
+pub mod map;
+#[cfg(test)]
+mod map_tests;
 pub mod moving;
 pub mod support;
 pub mod testing;
+#[cfg(test)]
+mod tests;
 pub mod unanswered;
 pub mod zero;
 
@@ -17,6 +23,7 @@ pub use base::{Base, compute_base, compute_base_of};
 pub use class::{Class, decide_class};
 pub use coboundaries::is_zero_at;
 pub use invert::{Inverting, decide_inverting};
+pub use map::{Map, decide_map};
 pub use moving::move_class;
 pub use support::{Support, compute_support};
 pub use testing::test_class;

@@ -4,7 +4,7 @@ use Rattle.std.proofs.lemmas.Bool.{eq-eqb}
 use Rattle.fm_words.specs.Words.{AreNames}
 use Rattle.fm_words.specs.Options.{◌>>=◌, where_so}
 use Rattle.fm_words.specs.Steps.{place}
-use Rattle.fm_problem.specs.Problems.{asked, ideal_names}
+use Rattle.fm_problem.specs.Problems.{query_in, ideal_names}
 use Rattle.fm_problem.specs.Sound.{IsQueryOf, IsSmallQuery, IsProblem, HasSmallExponents}
 use Rattle.fm_problem.specs.declared.problem.Problem.{Problem}
 use Rattle.fm_problem.specs.declared.query.Query.{Query}
@@ -32,7 +32,7 @@ module _ (q : Problem) (sound : IsProblem q) (small : HasSmallExponents q) (k : 
   question_said : say (between q k) (Question (suc k) (question_line q z)) ≡ Some (asked_sheet None)
   unfolding say between
   question_said =
-      ap (λ (t : Bool). where_so t (option_map (begin_query (between q k) (suc k)) (from_result (asked (begun q q.ideals) (question_line q z))))) (eq-eqb (suc k) (suc k) refl)
+      ap (λ (t : Bool). where_so t (option_map (begin_query (between q k) (suc k)) (from_result (query_in (begun q q.ideals) (question_line q z))))) (eq-eqb (suc k) (suc k) refl)
       ∙ ap (λ r. option_map (begin_query (between q k) (suc k)) (from_result r)) (question_read q sound small z of low)
 
   names_are : AreNames q.vars

@@ -28,7 +28,7 @@ use Rattle.fm_words.specs.Steps.{◌>>=◌, steps, or_fault, place}
 use Rattle.fm_text.specs.Factors.{Factor, SignedText, factor_of, terms_of, is_term}
 use Rattle.fm_text.specs.Certificates.{is_sound_factor, is_sound_term}
 use Rattle.fm_text.specs.Polynomials.{Rules}
-use Rattle.fm_problem.specs.Problems.{polynomial_in, plus_name, bare, ring_of, rules_of, Generators, unless_empty, unless_zero, plus_generator, generators_in, ideal_names, plus_ideal, with_ideal, degree_in, ideal_in, stage_in, plus_entry, vector_in, module_query, asked}
+use Rattle.fm_problem.specs.Problems.{polynomial_in, plus_name, bare, ring_of, rules_of, Generators, unless_empty, unless_zero, plus_generator, generators_in, ideal_names, plus_ideal, with_ideal, degree_in, ideal_in, stage_in, plus_entry, vector_in, module_query, query_in}
 use Rattle.fm_problem.specs.Faults.{on_line}
 use Rattle.fm_problem.specs.Statements.{RingLine, ModuleLine}
 use Rattle.fm_text.specs.SumOfTerms.{IsPolynomialOf}
@@ -283,12 +283,12 @@ module _ (q : Problem) (sound : IsProblem q) (small : HasSmallExponents q) where
   stage_read : (e : ℕ) → e ≤ greatest_stage → stage_in e ≡ Ok e
   stage_read e b = ap (λ (t : Bool). if t then Ok e else Err Limit) (le-leb e greatest_stage b)
 
-  module_asked : (a : Question) (i k : ℕ) → i ≤ q.ring.vars → k < length q.ideals → asked without_queries (ModuleLine a i (name_at q k)) ≡ Ok (module_query a i k)
+  module_asked : (a : Question) (i k : ℕ) → i ≤ q.ring.vars → k < length q.ideals → query_in without_queries (ModuleLine a i (name_at q k)) ≡ Ok (module_query a i k)
   module_asked a i k b c =
       ap (λ x. x >>= λ i. (ideal_in without_queries (name_at q k) >>= λ k. Ok (module_query a i k))) (degree_read i b) ∙ ap (λ x. x >>= λ k. Ok (module_query a i k)) (ideal_found k c)
 
   -- the line that asks a query is read as this query
-  pub question_read : (z : Query) → IsQueryOf q z → IsSmallQuery z → asked without_queries (question_line q z) ≡ Ok z
+  pub question_read : (z : Query) → IsQueryOf q z → IsSmallQuery z → query_in without_queries (question_line q z) ≡ Ok z
   question_read (queries.TheVariants.Zero i k) w low = module_asked questions.TheVariants.Zero i k w.0 w.1
   question_read (queries.TheVariants.Root i k) w low = module_asked questions.TheVariants.Root i k w.0 w.1
   question_read (queries.TheVariants.Support i k) w low = module_asked questions.TheVariants.Support i k w.0 w.1

@@ -7,7 +7,7 @@ use Rattle.fm_poly.specs.declared.ring.Ring.{Ring}
 use Rattle.fm_words.specs.Parts.{Bytes}
 use Rattle.fm_words.specs.Steps.{place}
 use Rattle.fm_problem.specs.Statements.{Statement, RingLine, OrderLine, IdealLine}
-use Rattle.fm_problem.specs.Problems.{ring_of, with_order, with_ideal, asked, ideal_names}
+use Rattle.fm_problem.specs.Problems.{ring_of, with_order, with_ideal, query_in, ideal_names}
 use Rattle.fm_problem.specs.declared.problem.Problem.{Problem}
 use Rattle.fm_problem.specs.declared.query.Query.{Query}
 use Rattle.fm_problem.specs.declared.query.Query as queries
@@ -85,7 +85,7 @@ begin_query s k z =
 
 abbrev pub say_question : Sheet → ℕ → Statement → Option Sheet
 say_question s k question =
-    where_so (nat_eq k (suc s.count)) (s.head >>= λ q. option_map (begin_query s k) (from_result (asked q question)))
+    where_so (nat_eq k (suc s.count)) (s.head >>= λ q. option_map (begin_query s k) (from_result (query_in q question)))
 
 -- a query has one answer
 abbrev pub say_answer : Sheet → Answer → Option Sheet

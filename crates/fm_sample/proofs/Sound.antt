@@ -4,7 +4,6 @@ use Rattle.std.specs.List.{list_all}
 use Rattle.std.proofs.lemmas.List.Elements.{All-append, All-cons, All-nil}
 use Rattle.std.proofs.lemmas.List.Folds.{list_all-append}
 use Rattle.fm_text.specs.SumOfTerms.{IsPolynomialOf}
-use Rattle.fm_problem.specs.Problems.{is_built}
 use Rattle.fm_problem.specs.Sound.{AreApart, AreSmallIdeals, AreSmallQueries, HasSmallExponents, IsIdealOf, IsProblem, IsQueryOf}
 use Rattle.fm_problem.specs.declared.ideal.Ideal.{Ideal}
 use Rattle.fm_problem.specs.declared.problem.Problem.{Problem}
@@ -64,14 +63,6 @@ queries_small : (n : ℕ) → AreSmallQueries (queries_on n)
 queries_small zero = tt
 queries_small (suc n) = small_queries_more (queries_on n) _ (queries_small n) (tt, (tt, ((refl, tt), tt)))
 
-queries_built : (n : ℕ) → All (λ z. is_built z ≡ true) (queries_on n)
-queries_built zero = All-nil (λ z. is_built z ≡ true)
-queries_built (suc n) =
-    let P : Query → Type 0 = λ z. is_built z ≡ true in
-    let one = All-cons P (queries.TheVariants.Invert 2 n x) [] refl (All-nil P) in
-    let two = All-cons P (queries.TheVariants.Zero 3 n) (queries.TheVariants.Invert 2 n x ∷ []) refl one in
-    All-append P (queries_on n) _ (queries_built n) (All-cons P (queries.TheVariants.Zero 2 n) (queries.TheVariants.Zero 3 n ∷ queries.TheVariants.Invert 2 n x ∷ []) refl two)
-
 -- ---- the problem
 sample_sound : (n : ℕ) → IsProblem (sample_problem n)
 unfolding sample_problem
@@ -85,7 +76,6 @@ sample_sound n =
       ideals_apart = subst AreApart (sym (names_of_ideals 20 n)) names_apart;
       few_queries = omega arith;
       asked = queries_sound (record { ring = sample_ring; vars = variables; ideals = ideals 20 n; queries = queries_on 20 }) refl 20 (omega (arith, twenty));
-      built = queries_built 20;
     }
 
 sample_small : (n : ℕ) → HasSmallExponents (sample_problem n)

@@ -10,6 +10,8 @@ mod ext_tests;
 #[cfg(test)]
 mod limit_tests;
 #[cfg(test)]
+mod map_tests;
+#[cfg(test)]
 mod query_tests;
 mod reply;
 #[cfg(test)]

@@ -253,7 +253,7 @@ const ROWS: [Row; 46] = [
         failing_reads: &[],
         failing_writes: &[],
         status: Status::Problem,
-        written: b"line 4: not built\n",
+        written: b"line 5: syntax\n",
     },
     Row {
         words: &["decide"],
@@ -394,7 +394,7 @@ fn words_of(alloc: Global, words: &[&str]) -> Result<Vec<String>, Fail> {
 }
 
 /// The status of a run on the words and the text of a row, and what the sink took.
-pub fn outcome(alloc: Global, row: &Row) -> Result<(Status, MemorySink), Fail> {
+pub(crate) fn outcome(alloc: Global, row: &Row) -> Result<(Status, MemorySink), Fail> {
     let words = words_of(alloc, row.words)?;
     let mut source = MemorySource::new(
         row.text.to_vec(alloc)?,

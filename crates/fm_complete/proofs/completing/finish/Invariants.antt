@@ -4,7 +4,7 @@ use Rattle.fm_run.specs.Turns.{repeated}
 use Rattle.fm_run.proofs.Following.{Left}
 use Rattle.fm_complete.specs.Bases.{completion_value}
 use Rattle.fm_complete.specs.Completions as runs
-use Rattle.fm_complete.specs.Standing.{AreReady, AreStanding, ArePairsOf}
+use Rattle.fm_complete.specs.Standing.{AreReady, AreStanding, ArePending}
 use Rattle.fm_complete.proofs.completing.finish.Given as goal
 
 abbrev pub invariant-pairs : goal.invariant-pairs
@@ -13,7 +13,7 @@ invariant-pairs l = record {
   spent : l.work ≤ l.initial.work;
   standing : AreStanding l.ring l.rows l.c.members.items;
   ready : AreReady l.ring l.rows l.c.members.items l.c.heads l.c.tails.items;
-  pairs : ArePairsOf l.ring l.c.members.items l.c.pending.items;
+  pairs : ArePending l.ring l.c.members.items l.c.pending;
 }
 
 abbrev pub decreases-pairs : goal.decreases-pairs

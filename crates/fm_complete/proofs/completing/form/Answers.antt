@@ -15,20 +15,20 @@ use Rattle.fm_complete.proofs.completing.form.Goals as goal
 
 pub s_rest-requires-clause-earlier_high : goal.s_rest-requires-clause-earlier_high
 s_rest-requires-clause-earlier_high c =
-    let h = c.requires.pairs.0.0.earlier_high in
+    let h = c.requires.pairs.pairs.0.0.earlier_high in
     let e = length_terms c.args.c.now.members.items in
     let d = ap (λ (vs : List VectorValue). length vs) c.deref.ensures.value in
     omega (arith, h, e, d)
 
 pub s_rest-requires-clause-later_high : goal.s_rest-requires-clause-later_high
 s_rest-requires-clause-later_high c =
-    let h = c.requires.pairs.0.0.later_high in
+    let h = c.requires.pairs.pairs.0.0.later_high in
     let e = length_terms c.args.c.now.members.items in
     let d = ap (λ (vs : List VectorValue). length vs) c.deref.ensures.value in
     omega (arith, h, e, d)
 
 pub keep-requires-clause-pairs : goal.keep-requires-clause-pairs
-keep-requires-clause-pairs c = (c.requires.pairs.0.1, c.requires.pairs.1.1)
+keep-requires-clause-pairs c = record { pairs = (c.requires.pairs.pairs.0.1, c.requires.pairs.pairs.1.1); compared = c.requires.pairs.compared }
 
 pub returns-in-Err-keep-clause-follows : goal.returns-in-Err-keep-clause-follows
 returns-in-Err-keep-clause-follows c =

@@ -9,7 +9,7 @@ use Rattle.fm_complete.specs.Divisions.{terms_of}
 use Rattle.fm_complete.specs.Indexed.{IsIndexOf}
 use Rattle.fm_complete.specs.Spread.{IsFront, tail_columns}
 use Rattle.fm_complete.proofs.Indexed.{heads_length, front_more}
-use Rattle.fm_complete.proofs.Standing.{length_terms, terms_more, standing_more, pairs_more, kept_more}
+use Rattle.fm_complete.proofs.Standing.{length_terms, terms_more, standing_more, pairs_more, pairs_earlier, kept_more}
 use Rattle.fm_complete.proofs.completing.keep.Goals as goal
 
 pub returns-clause-kept : goal.returns-clause-kept
@@ -17,8 +17,8 @@ returns-clause-kept c =
     kept_more c.args.ring c.args.rows c.args.remainder.rest.terms c.in-Some.head c.in-Some.ensures.head (moved_vector c.requires.ring c.requires.rows refl c.head.ensures.proper)
     c.args.c.now.members.items c.push-2.new.self.items c.in_ok-member.member c.in_ok-push-2.ensures.items
     (c.in_ok-member.ensures ∙ (λ i. record { ring = c.requires.ring i; rows = c.requires.rows i; terms = monic_of (c.requires.ring i) c.args.remainder.rest.terms })) c.requires.standing
-    (start_value c.args.start) c.args.remainder.by.items c.args.c.now.pending.items c.push_pairs.new.pending.items c.args.c.now.log.items c.push-3.new.self.items _
-    (c.in_ok-push_pairs.ensures.pairs ∙ ap₂ (λ n (ms : List VectorValue). with_pairs c.args.ring.order (n + 1) c.in-Some.head 1 (terms_of ms) c.args.c.now.pending.items) (c.len-count.ensures ∙ sym c.deref.ensures.len ∙ ap (λ (vs : List VectorValue). length vs) c.deref.ensures.value) c.deref.ensures.value)
+    (start_value c.args.start) c.args.remainder.by.items c.args.c.now.pending.pairs c.push_pairs.new.pending.pairs c.args.c.now.log.items c.push-3.new.self.items _
+    (c.in_ok-push_pairs.ensures.pairs ∙ ap₂ (λ n (ms : List VectorValue). with_pairs c.args.ring.order (n + 1) c.in-Some.head 1 (terms_of ms) c.args.c.now.pending.pairs) (c.len-count.ensures ∙ sym c.deref.ensures.len ∙ ap (λ (vs : List VectorValue). length vs) c.deref.ensures.value) c.deref.ensures.value)
     c.in_ok-push-3.ensures.items refl
 
 pub returns-clause-standing : goal.returns-clause-standing
@@ -29,13 +29,15 @@ returns-clause-standing c =
     (let a = c.if-count-ge4294967295.false in let b = c.len-count.ensures ∙ sym c.deref.ensures.len ∙ ap (λ (vs : List VectorValue). length vs) c.deref.ensures.value in omega (arith, a, b))
 
 pub returns-clause-pairs : goal.returns-clause-pairs
-returns-clause-pairs c =
-    pairs_more c.args.ring c.args.rows c.args.remainder.rest.terms c.in-Some.head c.in-Some.ensures.head (moved_vector c.requires.ring c.requires.rows refl c.head.ensures.proper)
-    c.args.c.now.members.items c.push-2.new.self.items c.in_ok-member.member c.in_ok-push-2.ensures.items
-    (c.in_ok-member.ensures ∙ (λ i. record { ring = c.requires.ring i; rows = c.requires.rows i; terms = monic_of (c.requires.ring i) c.args.remainder.rest.terms })) c.requires.standing
-    c.args.c.now.pending.items c.push_pairs.new.pending.items c.requires.pairs
-    (c.in_ok-push_pairs.ensures.pairs ∙ ap₂ (λ n (ms : List VectorValue). with_pairs c.args.ring.order (n + 1) c.in-Some.head 1 (terms_of ms) c.args.c.now.pending.items) (c.len-count.ensures ∙ sym c.deref.ensures.len ∙ ap (λ (vs : List VectorValue). length vs) c.deref.ensures.value) c.deref.ensures.value)
-    c.in_ok-push_pairs.ensures.over
+returns-clause-pairs c = record {
+  pairs = pairs_more c.args.ring c.args.rows c.args.remainder.rest.terms c.in-Some.head c.in-Some.ensures.head (moved_vector c.requires.ring c.requires.rows refl c.head.ensures.proper)
+      c.args.c.now.members.items c.push-2.new.self.items c.in_ok-member.member c.in_ok-push-2.ensures.items
+      (c.in_ok-member.ensures ∙ (λ i. record { ring = c.requires.ring i; rows = c.requires.rows i; terms = monic_of (c.requires.ring i) c.args.remainder.rest.terms })) c.requires.standing
+      c.args.c.now.pending.pairs c.push_pairs.new.pending.pairs c.requires.pairs.pairs
+      (c.in_ok-push_pairs.ensures.pairs ∙ ap₂ (λ n (ms : List VectorValue). with_pairs c.args.ring.order (n + 1) c.in-Some.head 1 (terms_of ms) c.args.c.now.pending.pairs) (c.len-count.ensures ∙ sym c.deref.ensures.len ∙ ap (λ (vs : List VectorValue). length vs) c.deref.ensures.value) c.deref.ensures.value)
+      c.in_ok-push_pairs.ensures.over;
+  compared = c.push_pairs.ensures.order ∙ c.requires.pairs.compared;
+}
 
 pub add-requires-clause-count : goal.add-requires-clause-count
 add-requires-clause-count c =
@@ -57,3 +59,9 @@ returns-clause-ready c =
           (c.in_ok-add.ensures.index (terms_of old) (subst (λ n. IsIndexOf r n (terms_of old) c.args.c.now.heads) (sym rows) c.requires.ready.heads) (omega (arith, count, long))));
       tails = subst (λ ms. IsFront c.args.c.now.tails.items (tail_columns r c.args.rows ms)) more (front_more r c.args.rows (terms_of old) v.terms c.args.c.now.tails.items c.requires.ready.tails);
     }
+
+pub push_pairs-requires-clause-new : goal.push_pairs-requires-clause-new
+push_pairs-requires-clause-new c =
+    let count = c.len-count.ensures ∙ sym c.deref.ensures.len ∙ ap (λ (vs : List VectorValue). length vs) c.deref.ensures.value in
+    let long = length_terms c.args.c.now.members.items in
+    pairs_earlier (terms_of c.args.c.now.members.items) (c.len-count.result + 1) c.args.c.now.pending.pairs (omega (arith, count, long)) c.requires.pairs.pairs.0

@@ -2,7 +2,7 @@ use Rattle.std.proofs.Common.{◌≡◌, ◌≤◌, suc, drop}
 use Rattle.fm_complete.specs.Bases.{completion_value}
 use Rattle.fm_complete.specs.Completions.{with_inputs}
 use Rattle.fm_complete.specs.Divisions.{terms_of}
-use Rattle.fm_complete.specs.Standing.{AreOfShape, AreReady, AreStanding, ArePairsOf, values}
+use Rattle.fm_complete.specs.Standing.{AreOfShape, AreReady, AreStanding, ArePending, values}
 use Rattle.fm_complete.proofs.completing.take_inputs.Given as goal
 
 abbrev pub invariant-loop-k : goal.invariant-loop-k
@@ -12,5 +12,5 @@ invariant-loop-k l = record {
   spent : l.work ≤ l.initial.work;
   standing : AreStanding l.ring l.rows l.c.members.items;
   ready : AreReady l.ring l.rows l.c.members.items l.c.heads l.c.tails.items;
-  pairs : ArePairsOf l.ring l.c.members.items l.c.pending.items;
+  pairs : ArePending l.ring l.c.members.items l.c.pending;
 }

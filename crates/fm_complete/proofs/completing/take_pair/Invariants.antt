@@ -7,9 +7,10 @@ use Rattle.fm_complete.proofs.completing.take_pair.Given as goal
 
 abbrev pub invariant-pairs : goal.invariant-pairs
 invariant-pairs l = record {
-  skipped : skipping (terms_of l.members) (map entry_value l.log.items) l.pending.items ≡ skipping (terms_of l.members) (map entry_value l.initial.log.items) l.initial.pending.items;
-  pairs : ArePairsOf l.ring l.members l.pending.items;
+  skipped : skipping (terms_of l.members) (map entry_value l.log.items) l.pending.pairs ≡ skipping (terms_of l.members) (map entry_value l.initial.log.items) l.initial.pending.pairs;
+  pairs : ArePairsOf l.ring l.members l.pending.pairs;
+  compared : l.pending.order ≡ l.initial.pending.order;
 }
 
 abbrev pub decreases-pairs : goal.decreases-pairs
-decreases-pairs l = length l.pending.items
+decreases-pairs l = length l.pending.pairs

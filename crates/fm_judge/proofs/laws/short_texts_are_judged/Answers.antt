@@ -97,3 +97,27 @@ returns-clause-empty c = refl
 pub returns-clause-cut : goal.returns-clause-cut
 unfolding judgement start step judged_line goal_of line_in line_of say blank new_block exact_number read_polynomial read_vector certificate_polynomial sum_of_terms claim
 returns-clause-cut c = refl
+
+pub returns-clause-inverted : goal.returns-clause-inverted
+unfolding judgement start step judged_line goal_of line_in line_of say blank new_block exact_number read_polynomial read_vector certificate_polynomial sum_of_terms claim
+returns-clause-inverted c = refl
+
+pub returns-clause-not_inverted : goal.returns-clause-not_inverted
+unfolding judgement start step judged_line goal_of line_in line_of say blank new_block exact_number read_polynomial read_vector certificate_polynomial sum_of_terms claim
+returns-clause-not_inverted c = refl
+
+pub returns-clause-supported : goal.returns-clause-supported
+unfolding judgement start step judged_line goal_of line_in line_of say blank new_block exact_number read_polynomial read_vector certificate_polynomial sum_of_terms claim
+returns-clause-supported c = refl
+
+pub returns-clause-mapped : goal.returns-clause-mapped
+unfolding judgement start step judged_line goal_of line_in line_of say blank new_block exact_number read_polynomial read_vector certificate_polynomial sum_of_terms claim
+returns-clause-mapped c = refl
+
+pub returns-clause-half_an_answer : goal.returns-clause-half_an_answer
+unfolding judgement start step judged_line goal_of line_in line_of say blank new_block exact_number read_polynomial read_vector certificate_polynomial sum_of_terms claim
+returns-clause-half_an_answer c = refl
+
+pub returns-clause-no_certificate : goal.returns-clause-no_certificate
+unfolding judgement start step judged_line goal_of line_in line_of say blank new_block exact_number read_polynomial read_vector certificate_polynomial sum_of_terms claim
+returns-clause-no_certificate c = refl

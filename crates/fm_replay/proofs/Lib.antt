@@ -1,0 +1,7 @@
+mod VectorNumbers
+mod PairHeads
+mod Additions
+mod PairSteps
+mod Entries
+mod Endings
+mod LogSteps

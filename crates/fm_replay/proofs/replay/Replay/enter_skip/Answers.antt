@@ -1,0 +1,6 @@
+use Rattle.std.proofs.Common.{None}
+use Rattle.fm_replay.specs.Kept.{after_pair}
+use Rattle.fm_replay.proofs.replay.Replay.enter_skip.Goals as goal
+
+pub returns-in-Ok-treat_pair-clause-enters : goal.returns-in-Ok-treat_pair-clause-enters
+returns-in-Ok-treat_pair-clause-enters c inputs s kept = (after_pair s c.args.a c.args.b None, c.in-Ok.ensures inputs s kept, c.in-Ok-treat_pair.ensures.adds s kept)
