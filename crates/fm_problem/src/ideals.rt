@@ -1,5 +1,5 @@
 // Ideals of a problem text.
-ghost use Rattle.std.specs.Prelude.{◌≡◌, OnOk, true};
+ghost use Rattle.std.specs.Prelude.{◌≡◌, OnErr, OnOk, true};
 ghost use Rattle.fm_words.specs.Parts.{parts};
 ghost use Rattle.fm_words.specs.Words.{is_name};
 ghost use Rattle.fm_words.specs.declared.mark.Mark.TheVariants.{Comma};
@@ -79,6 +79,7 @@ pub fn add_ideal(
     requires name { is_name name.now ≡ true }
     ensures gives { Gives (λ _. problem.new) result (with_ideal problem.old name.now (parts Comma generators.now)) }
     ensures bounded { OnOk result (IsBounded problem.new) }
+    ensures unchanged { OnErr result (problem.new ≡ problem.old) }
 {
     if problem.ideals.len() >= IDEALS {
         return Err(ReadError::Fault(FaultKind::Limit));

@@ -27,4 +27,4 @@ pub use name::{Name, Names};
 pub use problem::Problem;
 pub use problem_error::ProblemError;
 pub use query::Query;
-pub use reading::{read_problem, read_query};
+pub use reading::{add_line, order_in, read_problem, read_query, read_ring, with_order};

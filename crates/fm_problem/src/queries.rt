@@ -1,5 +1,5 @@
 // Queries of a problem text.
-ghost use Rattle.std.specs.Prelude.{◌≡◌, OnOk};
+ghost use Rattle.std.specs.Prelude.{◌≡◌, OnErr, OnOk};
 ghost use Rattle.fm_words.specs.Words.{value};
 ghost use Rattle.fm_problem.specs.Problems.{IsBounded, degree_in, ideal_in, module_query as module_query_of, query_in as query_of_line, stage_in, vector_in, with_query};
 ghost use Rattle.fm_problem.specs.Statements.{entries_of};
@@ -144,6 +144,7 @@ pub fn add_query(
     requires { IsBounded problem.old }
     ensures gives { Gives (λ _. problem.new) result (with_query problem.old (statement_view statement.entry)) }
     ensures bounded { OnOk result (IsBounded problem.new) }
+    ensures unchanged { OnErr result (problem.new ≡ problem.old) }
 {
     if problem.queries.len() >= QUERIES {
         return Err(ReadError::Fault(FaultKind::Limit));

@@ -1,5 +1,5 @@
 // The reader of problem texts.
-ghost use Rattle.std.specs.Prelude.{◌≡◌, ◌+◌, ◌<◌, ◌^◌, IfOk, OnOk, Ok, length, option_map};
+ghost use Rattle.std.specs.Prelude.{◌≡◌, ◌+◌, ◌<◌, ◌^◌, IfOk, OnErr, OnOk, Ok, length, option_map};
 ghost use Rattle.fm_gfp.specs.Primes.{prime_of};
 ghost use Rattle.fm_words.specs.Lines.{ahead, reach};
 ghost use Rattle.fm_words.specs.Words.{value};
@@ -28,8 +28,8 @@ fn read_prime(digits: &[u8]) -> Option<Prime>
     Prime::of(n)
 }
 
-// The problem that a ring line begins.
-fn read_ring(alloc: Global, line: &[u8]) -> Result<Problem, ReadError<FaultKind>>
+/// The problem that a ring line begins, with the order grevlex; or the first fault of the line.
+pub fn read_ring(alloc: Global, line: &[u8]) -> Result<Problem, ReadError<FaultKind>>
     ensures gives { Gives (λ q. q) result (ring_of (statement_of line.now)) }
     ensures bounded { IfOk result IsBounded }
 {
@@ -53,7 +53,8 @@ fn read_ring(alloc: Global, line: &[u8]) -> Result<Problem, ReadError<FaultKind>
     })
 }
 
-fn order_in(line: &[u8]) -> Option<Order>
+/// The order of an order line; None where the line is another.
+pub fn order_in(line: &[u8]) -> Option<Order>
     ensures { result ≡ order_in_statement (statement_of line.now) }
 {
     match read_statement(line) {
@@ -62,11 +63,12 @@ fn order_in(line: &[u8]) -> Option<Order>
     }
 }
 
-// Reads a line after the ring line and the order line.
-fn add_line(alloc: Global, problem: &mut Problem, line: &[u8]) -> Result<(), ReadError<FaultKind>>
+/// Appends the ideal or the query of a line after the ring line and the order line; or gives the first fault of the line.
+pub fn add_line(alloc: Global, problem: &mut Problem, line: &[u8]) -> Result<(), ReadError<FaultKind>>
     requires { IsBounded problem.old }
     ensures gives { Gives (λ _. problem.new) result (with_line problem.old (statement_of line.now)) }
     ensures bounded { OnOk result (IsBounded problem.new) }
+    ensures unchanged { OnErr result (problem.new ≡ problem.old) }
 {
     let Some(statement) = read_statement(line) else {
         return Err(ReadError::Fault(FaultKind::Syntax));
@@ -104,7 +106,8 @@ fn read_lines(alloc: Global, begun: Problem, lines: Lines<'_>) -> Result<Problem
     }
 }
 
-fn with_order(problem: Problem, order: Order) -> Problem
+/// The problem with this order in place of its own.
+pub fn with_order(problem: Problem, order: Order) -> Problem
     ensures { result ≡ problem_with_order order problem }
 {
     let mut problem = problem;
