@@ -39,3 +39,4 @@ pub use division::Division;
 pub use entry::{Entry, Start};
 pub use remainder::{Remainder, reduced_rest, rest_of};
 pub use step::Step;
+pub use stepping::{cancel, divides, step_to};

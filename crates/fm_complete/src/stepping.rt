@@ -60,9 +60,9 @@ fn first_dividing(ring: Ring, heads: &[Head], t: &VTerm) -> Option<Head>
     }
 }
 
-/// Whether b divides t.
+/// Whether the term b divides t: both are in one component, and no exponent of b is larger.
 #[inline]
-fn divides(ring: Ring, b: &VTerm, t: &VTerm) -> bool
+pub fn divides(ring: Ring, b: &VTerm, t: &VTerm) -> bool
     requires b_term { IsTerm ring.prime ring.vars b.now }
     requires t_term { IsTerm ring.prime ring.vars t.now }
     ensures { result ≡ term_divides b.now t.now }
@@ -73,8 +73,8 @@ fn divides(ring: Ring, b: &VTerm, t: &VTerm) -> bool
     b.mono.divides(t.mono)
 }
 
-/// The step by which the member with the head b cancels t.
-fn step_to(ring: Ring, number: u32, b: &VTerm, t: &VTerm) -> Step
+/// The step by which the member of this number, with the head b, cancels t.
+pub fn step_to(ring: Ring, number: u32, b: &VTerm, t: &VTerm) -> Step
     requires b_term { IsTerm ring.prime ring.vars b.now }
     requires t_term { IsTerm ring.prime ring.vars t.now }
     requires divides { term_divides b.now t.now ≡ true }
@@ -91,8 +91,8 @@ fn step_to(ring: Ring, number: u32, b: &VTerm, t: &VTerm) -> Step
     }
 }
 
-/// What the step leaves of v, written into a buffer.
-pub(crate) fn cancel(
+/// What the step leaves of v by its member b, written into a buffer whose content is dropped. It passes once over both.
+pub fn cancel(
     v: &Vector,
     buffer: Vec<VTerm>,
     step: &Step,

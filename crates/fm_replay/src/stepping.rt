@@ -1,9 +1,7 @@
 // One head reduction by a given member.
-ghost use Rattle.std.specs.Prelude.{IfOk, IfSome, length, true, ℕ, ◌<◌, ◌≡◌};
+ghost use Rattle.std.specs.Prelude.{IfOk, IfSome, length, ℕ, ◌<◌, ◌≡◌};
 ghost use Rattle.fm_gfp.specs.Primes.{prime_value};
-ghost use Rattle.fm_term.specs.Falling.{IsTerm};
 ghost use Rattle.fm_complete.specs.Divisions.{terms_of};
-ghost use Rattle.fm_complete.specs.Divisors.{step_for, term_divides};
 ghost use Rattle.fm_complete.specs.Standing.{AreOfShape};
 ghost use Rattle.fm_complete.specs.Trails.{member_at};
 ghost use Rattle.fm_parts.specs.Replays as definitions;
@@ -13,8 +11,9 @@ ghost use Rattle.fm_replay.specs.Steps.{Cancels, head_step};
 
 use crate::numbers::numbered;
 use crate::{Fault, Refusal};
-use fm_complete::Step;
-use fm_poly::{PolyError, Ring};
+use fm_complete::{Step, divides, step_to};
+use fm_poly::Ring;
+use fm_run::Stop;
 use fm_term::VTerm;
 use fm_vec::Vector;
 
@@ -58,36 +57,6 @@ fn step_by(ring: Ring, k: u32, b: &Vector, v: &Vector) -> Option<Step>
     Some(step_to(ring, k, &t, &s))
 }
 
-/// Whether b divides t.
-fn divides(ring: Ring, b: &VTerm, t: &VTerm) -> bool
-    requires b_term { IsTerm ring.prime ring.vars b.now }
-    requires t_term { IsTerm ring.prime ring.vars t.now }
-    ensures { result ≡ term_divides b.now t.now }
-{
-    if b.component != t.component {
-        return false;
-    }
-    b.mono.divides(t.mono)
-}
-
-/// The step by which the member of number k with the head b cancels t.
-fn step_to(ring: Ring, k: u32, b: &VTerm, t: &VTerm) -> Step
-    requires b_term { IsTerm ring.prime ring.vars b.now }
-    requires t_term { IsTerm ring.prime ring.vars t.now }
-    requires divides { term_divides b.now t.now ≡ true }
-    ensures value { result ≡ step_for ring k b.now t.now }
-    ensures vars { length result.mono ≡ ring.vars }
-    ensures some { 0 < result.coeff }
-    ensures below { result.coeff < prime_value ring.prime }
-{
-    let inverse = ring.prime.inverse(b.coeff);
-    Step {
-        number: k,
-        mono: t.mono.quotient(b.mono),
-        coeff: ring.prime.mul(t.coeff, inverse),
-    }
-}
-
 /// What the step leaves of v.
 fn cancel(v: &Vector, buffer: Vec<VTerm>, step: &Step, b: &Vector) -> Result<Vector, Refusal>
     requires ring { b.now.ring ≡ v.now.ring }
@@ -98,10 +67,10 @@ fn cancel(v: &Vector, buffer: Vec<VTerm>, step: &Step, b: &Vector) -> Result<Vec
     ensures cancels { Cancels v.now.ring step.now b.now.terms v.now.terms result }
     ensures shape { IfOk result (λ w. (w.ring ≡ v.now.ring) × (w.rows ≡ v.now.rows)) }
 {
-    let minus = v.ring().prime.neg(step.coeff);
-    match v.plus_multiple(buffer, minus, step.mono, b) {
+    match fm_complete::cancel(v, buffer, step, b) {
         Ok(w) => Ok(w),
-        Err(PolyError::Exponent) => Err(Refusal::Bad(Fault::Exponents)),
-        Err(PolyError::Memory) => Err(Refusal::Memory),
+        Err(Stop::Exponent) => Err(Refusal::Bad(Fault::Exponents)),
+        Err(Stop::Memory) => Err(Refusal::Memory),
+        Err(Stop::Budget) => unreachable!(),
     }
 }

@@ -41,8 +41,8 @@ pub fn graph_of(alloc: Global, a: Matrix, work: &mut Work) -> Result<Graph, Stop
     Ok(Graph::new(a, basis.members, basis.log))
 }
 
-/// The columns of a above the unit vectors.
-fn graph_columns(alloc: Global, a: &Matrix) -> Result<Vec<Vector>, AllocError>
+/// The columns of a above the unit vectors: what a completion of the graph of a begins with.
+pub fn graph_columns(alloc: Global, a: &Matrix) -> Result<Vec<Vector>, AllocError>
     requires some { 1 ≤ a.now.ring.vars }
     requires few { a.now.ring.vars ≤ 8 }
     requires room { a.now.rows + length a.now.columns < 2 ^ 32 }

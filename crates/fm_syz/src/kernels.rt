@@ -30,8 +30,9 @@ pub fn syzygies(alloc: Global, g: &Graph) -> Result<Matrix, AllocError>
     Ok(Matrix::new(ring, g.width(), columns))
 }
 
-/// The last c components of the members whose first m are zero.
-fn lower_blocks(
+/// The last c components of the members whose first m are zero, in their order. It is linear in the terms and components of these members, and reads
+/// the heads of the others.
+pub fn lower_blocks(
     alloc: Global,
     ring: Ring,
     m: u32,

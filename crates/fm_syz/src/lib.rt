@@ -28,12 +28,12 @@ mod trim_tests;
 pub(crate) mod trimming;
 pub(crate) mod twisting;
 
-pub use completing::graph_of;
+pub use completing::{graph_columns, graph_of};
 pub use generating::{generators_of, kernel, preimage};
 pub use generators::Generators;
 pub use graph::Graph;
 pub use inside::{Inside, Outside, inside_of, whole_of};
-pub use kernels::syzygies;
+pub use kernels::{lower_blocks, syzygies};
 pub use lifted::{Lifted, lift};
 pub use lifts::lift_columns;
 pub use preimages::Preimage;
