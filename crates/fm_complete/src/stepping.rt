@@ -92,12 +92,7 @@ pub fn step_to(ring: Ring, number: u32, b: &VTerm, t: &VTerm) -> Step
 }
 
 /// What the step leaves of v by its member b, written into a buffer whose content is dropped. It passes once over both.
-pub fn cancel(
-    v: &Vector,
-    buffer: Vec<VTerm>,
-    step: &Step,
-    b: &Vector,
-) -> Result<Vector, Stop>
+pub fn cancel(v: &Vector, buffer: Vec<VTerm>, step: &Step, b: &Vector) -> Result<Vector, Stop>
     requires ring { b.now.ring ≡ v.now.ring }
     requires rows { b.now.rows ≡ v.now.rows }
     requires vars { length step.now.mono ≡ v.now.ring.vars }

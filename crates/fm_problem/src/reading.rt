@@ -64,7 +64,11 @@ pub fn order_in(line: &[u8]) -> Option<Order>
 }
 
 /// Appends the ideal or the query of a line after the ring line and the order line; or gives the first fault of the line.
-pub fn add_line(alloc: Global, problem: &mut Problem, line: &[u8]) -> Result<(), ReadError<FaultKind>>
+pub fn add_line(
+    alloc: Global,
+    problem: &mut Problem,
+    line: &[u8],
+) -> Result<(), ReadError<FaultKind>>
     requires { IsBounded problem.old }
     ensures gives { Gives (λ _. problem.new) result (with_line problem.old (statement_of line.now)) }
     ensures bounded { OnOk result (IsBounded problem.new) }
