@@ -1,22 +1,21 @@
 -- The nodes of a table, and one more.
-use Rattle.std.proofs.Common.{◌≡◌, ℕ, zero, suc, ◌+◌, ◌-◌, ◌<◌, ◌≤◌, Bool, true, ◌&&◌, List, [], ◌∷◌, ◌++◌, length, get_or, Option, Some, None, refl, sym, ap, ◌∙◌, subst, arith}
+use Rattle.std.proofs.Common.{◌≡◌, ℕ, zero, suc, ◌+◌, ◌-◌, ◌<◌, true, ◌&&◌, List, [], ◌∷◌, ◌++◌, length, get_or, Some, None, refl, sym, ap, ◌∙◌, subst, arith}
 use Rattle.std.specs.List.{list_all}
 use Rattle.std.proofs.lemmas.Bool.{and_parts}
 use Rattle.std.specs.Prelude.{slice_get}
 use Rattle.std.proofs.lemmas.Option.{same_Some}
 use Rattle.std.proofs.lemmas.List.{length-append}
 use Rattle.fm_poly.specs.declared.ring.Ring.{Ring}
-use Rattle.fm_mat.specs.Matrices.{MatrixValue}
 use Rattle.fm_report.specs.Parts.{Part, given}
 use Rattle.fm_parts.specs.Replays.{is_number}
 use Rattle.fm_parts.specs.Shapes.{columns_of, fits, is_shallow}
 use Rattle.fm_pres.specs.Tables.{part_at, tree_of, TableValue, parts_from, parts_in, parts_with, is_column, refers, fault_of, IsOver}
 use Rattle.fm_pres.specs.Nodes.{forms_of, parts_of, IsMeasured, IsNode, AreNodesFrom, AreNodes, AreOver, IsBelow, IsPart}
-use Rattle.fm_pres.specs.Kept.{IsValueIf, AreValues}
+use Rattle.fm_pres.specs.Kept.{Shared, AreValues}
 use Rattle.fm_pres.specs.declared.form.Form.{Form}
 use Rattle.fm_pres.specs.declared.form.Form.TheVariants.{Given, Twist, Flip, Beside, Stack, Times, Pick}
 use Rattle.fm_pres.specs.declared.node.Node.{Node}
-use Rattle.fm_pres.proofs.Tables.{taken_parts, is_number_bounds, Extends, extends_push, extends_from, tree_kept, refers_kept, Passes, passes}
+use Rattle.fm_pres.proofs.Tables.{taken_parts, is_number_bounds, Extends, extends_push, extends_from, tree_kept, refers_kept, passes}
 
 last_at : (ps : List Part) (t d : Part) → get_or (ps ++ t ∷ []) (length ps) d ≡ t
 last_at [] t d = refl
@@ -119,7 +118,7 @@ over_at r (m ∷ ns) zero n o e = subst (λ (x : Node). IsOver r x.form) (same_S
 over_at r (m ∷ ns) (suc i) n o e = over_at r ns i n o.1 e
 
 -- the values of the parts so far remain
-pub values_push : (r : Ring) (ps : List Part) (a : Part) (vs : List (Option MatrixValue)) → AreValues r ps vs → AreValues r (ps ++ a ∷ []) vs
+pub values_push : (r : Ring) (ps : List Part) (a : Part) (vs : List Shared) → AreValues r ps vs → AreValues r (ps ++ a ∷ []) vs
 values_push r ps a [] x = tt
 values_push r [] a (v ∷ vs) x = absurd x
 values_push r (p ∷ ps) a (v ∷ vs) x = (x.0, values_push r ps a vs x.1)
@@ -137,7 +136,7 @@ pub seen : (t : TableValue) (r : Ring) (ns ms : List Node) → record { ring = r
 seen t r ns ms e h = ap parts_in (sym e) ∙ parts_are r ns ∙ ap parts_of (sym h)
 
 -- what holds of nodes and values is kept by one more node
-pub invariant_push : (r : Ring) (ns ms xs : List Node) (n : Node) (vs : List (Option MatrixValue)) → ms ≡ ns → xs ≡ ns ++ n ∷ []
+pub invariant_push : (r : Ring) (ns ms xs : List Node) (n : Node) (vs : List Shared) → ms ≡ ns → xs ≡ ns ++ n ∷ []
     → AreNodes ns → AreOver r ns → AreValues r (parts_of ns) vs → length ns + 1 < 4294967296
     → IsOver r n.form → fault_of (parts_of ms) n.form ≡ None → IsMeasured (tree_of (parts_of ms) n.form) n.shape n.depth
     → AreNodes xs × AreOver r xs × AreValues r (parts_of xs) vs × (length xs < 4294967296)

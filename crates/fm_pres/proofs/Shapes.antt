@@ -1,14 +1,14 @@
 -- The shapes and the depths of forms, from those of their operands.
-use Rattle.std.proofs.Common.{◌≡◌, ℕ, suc, ◌+◌, ◌-◌, ◌<◌, ◌≤◌, max, Bool, true, false, ◌&&◌, nat_eq, nat_lt, nat_le, List, [], ◌∷◌, length, map, Option, Some, None, refl, sym, ap, ap₂, ◌∙◌, subst, arith}
+use Rattle.std.proofs.Common.{◌≡◌, ℕ, ◌+◌, ◌-◌, ◌<◌, ◌≤◌, Bool, true, false, ◌&&◌, nat_eq, nat_lt, nat_le, List, [], ◌∷◌, length, map, Option, Some, refl, ap, arith}
 use Rattle.std.specs.List.{list_all}
-use Rattle.std.proofs.lemmas.Bool.{and_parts, eqb-true, ltb-true, leb-true, le-leb, lt-ltb, eq-eqb}
+use Rattle.std.proofs.lemmas.Bool.{and_parts, ltb-true, leb-true, lt-ltb, eq-eqb}
 use Rattle.std.proofs.lemmas.List.{length-map}
 use Rattle.fm_words.specs.Options.{where_so}
 use Rattle.fm_mat.specs.Matrices.{MatrixValue, AreColumns}
 use Rattle.fm_poly.specs.Polys.{PolyValue}
 use Rattle.fm_poly.specs.declared.ring.Ring.{Ring}
 use Rattle.fm_report.specs.Parts.{Part, given, twist, flip, beside, stack, times, pick}
-use Rattle.fm_parts.specs.Shapes.{SIZE, DEPTH, rows_of, columns_of, depth_of, operands_fit, fits_here, fits, is_shallow}
+use Rattle.fm_parts.specs.Shapes.{SIZE, DEPTH, rows_of, columns_of, depth_of, operands_fit, fits_here, fits}
 use Rattle.fm_pres.specs.Tables.{part_at, is_column}
 use Rattle.fm_pres.specs.Nodes.{IsMeasured, IsPart}
 use Rattle.fm_pres.specs.declared.node.Node.{Node}

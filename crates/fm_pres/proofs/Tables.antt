@@ -1,11 +1,11 @@
 -- More parts leave the earlier ones and what refers to them as they are.
-use Rattle.std.proofs.Common.{◌≡◌, ℕ, zero, suc, ◌+◌, ◌-◌, ◌<◌, ◌≤◌, ◌≢◌, Bool, true, false, ◌&&◌, if◌then◌else◌, nat_eq, nat_lt, nat_le, List, [], ◌∷◌, ◌++◌, length, map, get_or, Option, Some, None, Result, Ok, Err, refl, sym, ap, ap₂, ◌∙◌, subst, arith}
+use Rattle.std.proofs.Common.{◌≡◌, ℕ, suc, ◌+◌, ◌-◌, ◌<◌, ◌≤◌, Bool, true, false, ◌&&◌, if◌then◌else◌, nat_lt, nat_le, List, [], ◌∷◌, ◌++◌, length, map, get_or, Some, None, Ok, Err, refl, ap, ap₂, ◌∙◌, arith}
 use Rattle.std.specs.List.{list_all}
-use Rattle.std.proofs.lemmas.Bool.{and_parts, eqb-true, ltb-true, leb-true, le-leb, lt-ltb}
-use Rattle.std.proofs.lemmas.List.{get_or_append_left, get_or-append_right, length-append}
+use Rattle.std.proofs.lemmas.Bool.{and_parts, ltb-true, leb-true, le-leb, lt-ltb}
+use Rattle.std.proofs.lemmas.List.{get_or_append_left, length-append}
 use Rattle.fm_report.specs.Parts.{Part, given, twist, flip, beside, stack, times, pick}
 use Rattle.fm_parts.specs.Replays.{is_number}
-use Rattle.fm_parts.specs.Shapes.{SIZE, rows_of, columns_of, depth_of, operands_fit, fits_here, fits, is_shallow}
+use Rattle.fm_parts.specs.Shapes.{columns_of, fits, is_shallow}
 use Rattle.fm_pres.specs.Tables.{part_at, tree_of, parts_from, is_column, refers, fault_of, answer_to, parts_with}
 use Rattle.fm_pres.specs.declared.form.Form.{Form}
 use Rattle.fm_pres.specs.declared.form.Form.TheVariants.{Given, Twist, Flip, Beside, Stack, Times, Pick}

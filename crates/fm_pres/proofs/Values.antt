@@ -1,5 +1,5 @@
 -- Values of parts: those that are kept, and those of forms from those of the operands.
-use Rattle.std.proofs.Common.{◌≡◌, ℕ, zero, suc, ◌+◌, ◌-◌, ◌<◌, ◌≤◌, Bool, true, false, ◌&&◌, nat_lt, nat_le, List, [], ◌∷◌, ◌++◌, length, map, get_or, set, Option, Some, None, is_some, refl, sym, ap, ap₂, ◌∙◌, subst, arith}
+use Rattle.std.proofs.Common.{◌≡◌, ℕ, zero, suc, ◌+◌, ◌-◌, ◌<◌, Bool, true, false, ◌&&◌, nat_lt, nat_le, List, [], ◌∷◌, ◌++◌, length, map, get_or, set, Option, Some, None, is_some, refl, sym, ap, ap₂, ◌∙◌, subst, arith}
 use Rattle.std.specs.List.{list_all}
 use Rattle.std.proofs.lemmas.Bool.{and_parts, ltb-true, leb-true}
 use Rattle.std.proofs.lemmas.List.{length-map}
@@ -7,23 +7,28 @@ use Rattle.fm_algebra.specs.PolynomialMatrices.{PolynomialMatrix, matrix_product
 use Rattle.fm_mat.specs.Bounds.{products_fit, entries_fit}
 use Rattle.fm_mat.specs.Columns.{AreNumbers}
 use Rattle.fm_mat.specs.Matrices.{MatrixValue, matrix_meaning, columns_meaning}
+use Rattle.std.specs.declared.alloc.Global.{Global}
+use Rattle.std.specs.declared.rc.Rc.{Rc}
 use Rattle.fm_poly.specs.declared.ring.Ring.{Ring}
 use Rattle.fm_report.specs.Parts.{Part, given, twist, flip, beside, stack, times, pick, part_value}
-use Rattle.fm_parts.specs.Shapes.{rows_of, columns_of}
+use Rattle.fm_parts.specs.Shapes.{columns_of}
 use Rattle.fm_parts.specs.Values.{is_within_bound}
 use Rattle.fm_parts.specs.Replays.{is_number}
 use Rattle.fm_pres.specs.Tables.{part_at, tree_of, is_column, refers}
 use Rattle.fm_pres.specs.Nodes.{IsBelow}
-use Rattle.fm_pres.specs.Kept.{IsValue, IsValueIf, AreValues, is_there, Keeps, operands_of}
+use Rattle.fm_pres.specs.Kept.{IsValue, Shared, IsValueIf, AreValues, Keeps, operands_of}
 use Rattle.fm_pres.specs.declared.form.Form.{Form}
 use Rattle.fm_pres.specs.declared.form.Form.TheVariants.{Given, Twist, Flip, Beside, Stack, Times, Pick}
 
 abbrev Values : Type 0
-Values = List (Option MatrixValue)
+Values = List Shared
+
+abbrev Held : Type 0
+Held = Rc MatrixValue Global
 
 -- ---- lists of values
 
-pub value_at : (r : Ring) (ps : List Part) (vs : Values) (i : ℕ) (m : MatrixValue) → AreValues r ps vs → get_or vs i None ≡ Some m → IsValue r (get_or ps i (given 0 [])) m
+pub value_at : (r : Ring) (ps : List Part) (vs : Values) (i : ℕ) (m : Held) → AreValues r ps vs → get_or vs i None ≡ Some m → IsValue r (get_or ps i (given 0 [])) m.value
 value_at r ps [] i m x e = absurd (cc e)
 value_at r [] (v ∷ vs) i m x e = absurd x
 value_at r (p ∷ ps) (v ∷ vs) zero m x e = subst (IsValueIf r p) e x.0
@@ -34,17 +39,17 @@ there_long [] i e = absurd (cc e)
 there_long (v ∷ vs) zero e = omega arith
 there_long (v ∷ vs) (suc i) e = let h = there_long vs i e in omega (arith, h)
 
-any_default : (vs : Values) (i : ℕ) (v w : Option MatrixValue) → i < length vs → get_or vs i v ≡ get_or vs i w
+any_default : (vs : Values) (i : ℕ) (v w : Shared) → i < length vs → get_or vs i v ≡ get_or vs i w
 any_default [] i v w h = absurd (omega (arith, h))
 any_default (x ∷ vs) zero v w h = refl
 any_default (x ∷ vs) (suc i) v w h = any_default vs i v w (omega (arith, h))
 
 -- the value that is read
-pub value_read : (r : Ring) (ps : List Part) (vs : Values) (i : ℕ) (v : Option MatrixValue) (m : MatrixValue) → AreValues r ps vs → is_some (get_or vs i None) ≡ true
-    → v ≡ get_or vs i v → v ≡ Some m → IsValue r (get_or ps i (given 0 [])) m
+pub value_read : (r : Ring) (ps : List Part) (vs : Values) (i : ℕ) (v : Shared) (m : Held) → AreValues r ps vs → is_some (get_or vs i None) ≡ true
+    → v ≡ get_or vs i v → v ≡ Some m → IsValue r (get_or ps i (given 0 [])) m.value
 value_read r ps vs i v m x t e h = value_at r ps vs i m x (any_default vs i None v (there_long vs i t) ∙ sym e ∙ h)
 
-pub values_set : (r : Ring) (ps : List Part) (vs : Values) (i : ℕ) (m : MatrixValue) → AreValues r ps vs → i < length vs → IsValue r (get_or ps i (given 0 [])) m → AreValues r ps (set vs i (Some m))
+pub values_set : (r : Ring) (ps : List Part) (vs : Values) (i : ℕ) (m : Held) → AreValues r ps vs → i < length vs → IsValue r (get_or ps i (given 0 [])) m.value → AreValues r ps (set vs i (Some m))
 values_set r ps [] i m x h y = absurd (omega (arith, h))
 values_set r [] (v ∷ vs) i m x h y = absurd x
 values_set r (p ∷ ps) (v ∷ vs) zero m x h y = (y, x.1)
@@ -56,17 +61,17 @@ values_room r (p ∷ ps) [] x h = (tt, tt)
 values_room r [] (v ∷ vs) x h = absurd x
 values_room r (p ∷ ps) (v ∷ vs) x h = (x.0, values_room r ps vs x.1 (omega (arith, h)))
 
-there_after : (vs : Values) (i j : ℕ) (m : MatrixValue) → is_some (get_or vs j None) ≡ true → is_some (get_or (set vs i (Some m)) j None) ≡ true
+there_after : (vs : Values) (i j : ℕ) (m : Held) → is_some (get_or vs j None) ≡ true → is_some (get_or (set vs i (Some m)) j None) ≡ true
 there_after [] i j m e = e
 there_after (v ∷ vs) zero zero m e = refl
 there_after (v ∷ vs) zero (suc j) m e = e
 there_after (v ∷ vs) (suc i) zero m e = e
 there_after (v ∷ vs) (suc i) (suc j) m e = there_after vs i j m e
 
-pub keeps_set : (vs : Values) (i : ℕ) (m : MatrixValue) → Keeps vs (set vs i (Some m))
+pub keeps_set : (vs : Values) (i : ℕ) (m : Held) → Keeps vs (set vs i (Some m))
 keeps_set vs i m k e = there_after vs i (k - 1) m e
 
-pub there_set : (vs : Values) (i : ℕ) (m : MatrixValue) → i < length vs → is_some (get_or (set vs i (Some m)) i None) ≡ true
+pub there_set : (vs : Values) (i : ℕ) (m : Held) → i < length vs → is_some (get_or (set vs i (Some m)) i None) ≡ true
 there_set [] i m h = absurd (omega (arith, h))
 there_set (v ∷ vs) zero m h = refl
 there_set (v ∷ vs) (suc i) m h = there_set vs i m (omega (arith, h))

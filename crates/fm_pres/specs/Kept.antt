@@ -1,5 +1,7 @@
 -- The values of parts that are kept.
 use Rattle.std.specs.Prelude.{ℕ, ◌-◌, ◌≡◌, Bool, true, ◌&&◌, List, [], ◌∷◌, length, get_or, Option, Some, None, is_some, slice_get}
+use Rattle.std.specs.declared.alloc.Global.{Global}
+use Rattle.std.specs.declared.rc.Rc.{Rc}
 use Rattle.fm_mat.specs.Matrices.{MatrixValue, matrix_meaning}
 use Rattle.fm_poly.specs.declared.ring.Ring.{Ring}
 use Rattle.fm_report.specs.Parts.{Part, part_value}
@@ -17,22 +19,26 @@ pub record IsValue (r : Ring) (a : Part) (m : MatrixValue) : Type 0 where
   pub meaning : matrix_meaning r m ≡ part_value r a
   pub within : is_within_bound r a ≡ true
 
-abbrev pub IsValueIf : Ring → Part → Option MatrixValue → Type 0
+-- a matrix that is shared, if it is there
+abbrev pub Shared : Type 0
+Shared = Option (Rc MatrixValue Global)
+
+abbrev pub IsValueIf : Ring → Part → Shared → Type 0
 IsValueIf r a None = Unit {0}
-IsValueIf r a (Some m) = IsValue r a m
+IsValueIf r a (Some m) = IsValue r a m.value
 
 -- at most one for each part, in their order
-abbrev pub AreValues : Ring → List Part → List (Option MatrixValue) → Type 0
+abbrev pub AreValues : Ring → List Part → List Shared → Type 0
 AreValues r ps [] = Unit {0}
 AreValues r [] (v ∷ vs) = ⊥
 AreValues r (p ∷ ps) (v ∷ vs) = IsValueIf r p v × AreValues r ps vs
 
 -- the value of part k is kept
-abbrev pub is_there : List (Option MatrixValue) → ℕ → Bool
+abbrev pub is_there : List Shared → ℕ → Bool
 is_there vs k = is_some (get_or vs (k - 1) None)
 
 -- what is kept in vs is kept in ws
-abbrev pub Keeps : List (Option MatrixValue) → List (Option MatrixValue) → Type 0
+abbrev pub Keeps : List Shared → List Shared → Type 0
 Keeps vs ws = (k : ℕ) → is_there vs k ≡ true → is_there ws k ≡ true
 
 -- the operands of a form; one operand stands twice
@@ -45,7 +51,7 @@ operands_of (Stack a b) = Some (a, b)
 operands_of (Times a b) = Some (a, b)
 operands_of (Pick a js) = Some (a, a)
 
-abbrev pub both_there : List (Option MatrixValue) → Option (ℕ × ℕ) → Bool
+abbrev pub both_there : List Shared → Option (ℕ × ℕ) → Bool
 both_there vs None = true
 both_there vs (Some p) = is_there vs p.0 && is_there vs p.1
 
@@ -54,5 +60,5 @@ operands_at None = None
 operands_at (Some n) = operands_of n.form
 
 -- the values of the operands of part k are kept
-abbrev pub operands_are_there : List Node → ℕ → List (Option MatrixValue) → Bool
+abbrev pub operands_are_there : List Node → ℕ → List Shared → Bool
 operands_are_there ns k vs = both_there vs (operands_at (slice_get ns (k - 1)))

@@ -1,5 +1,5 @@
 -- The forms of a table with the shapes and depths that are kept of them.
-use Rattle.std.specs.Prelude.{ℕ, ◌≡◌, ◌<◌, true, List, [], ◌∷◌, ◌++◌, map, Option, Some, None, Result, Ok, Err}
+use Rattle.std.specs.Prelude.{ℕ, ◌≡◌, ◌<◌, true, List, [], ◌∷◌, ◌++◌, map, Some, None, Result, Ok, Err}
 use Rattle.fm_poly.specs.declared.ring.Ring.{Ring}
 use Rattle.fm_report.specs.Parts.{Part}
 use Rattle.fm_parts.specs.Shapes.{rows_of, columns_of, depth_of, fits, is_shallow}

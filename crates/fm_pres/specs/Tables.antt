@@ -1,7 +1,6 @@
 -- The parts of a table, and what a form adds to them.
 use Rattle.std.specs.Prelude.{ℕ, suc, ◌-◌, ◌≡◌, Bool, true, ◌&&◌, if◌then◌else◌, nat_lt, nat_le, List, [], ◌∷◌, ◌++◌, map, length, get_or, Option, Some, None, Result, Ok, Err}
 use Rattle.std.specs.List.{list_all}
-use Rattle.fm_mat.specs.Matrices.{MatrixValue}
 use Rattle.fm_poly.specs.declared.ring.Ring.{Ring}
 use Rattle.fm_report.specs.Parts.{Part, given, twist, flip, beside, stack, times, pick}
 use Rattle.fm_parts.specs.Replays.{is_number}

@@ -14,9 +14,10 @@ use crate::node::Node;
 use fm_mat::Matrix;
 use fm_poly::{PolyError, Ring};
 use std::alloc::{AllocError, Global};
+use std::rc::Rc;
 
 /// Adds places for values through part k.
-pub(crate) fn make_room(k: u32, values: &mut Vec<Option<Matrix>>) -> Result<(), AllocError>
+pub(crate) fn make_room(k: u32, values: &mut Vec<Option<Rc<Matrix>>>) -> Result<(), AllocError>
     ensures values { (r : RingValue) (ps : List Part) → k ≤ length ps → AreValues r ps values.old.items → AreValues r ps values.new.items }
     ensures room { OnOk result (k ≤ length values.new.items) }
 {
@@ -32,7 +33,7 @@ pub(crate) fn evaluate(
     ring: Ring,
     nodes: &[Node],
     k: u32,
-    values: &mut Vec<Option<Matrix>>,
+    values: &mut Vec<Option<Rc<Matrix>>>,
 ) -> Result<(), PolyError>
     requires nodes { AreNodes nodes.now }
     requires over { AreOver ring nodes.now }
@@ -77,7 +78,7 @@ fn keep(
     ring: Ring,
     nodes: &[Node],
     k: u32,
-    values: &mut Vec<Option<Matrix>>,
+    values: &mut Vec<Option<Rc<Matrix>>>,
 ) -> Result<(), PolyError>
     requires nodes { AreNodes nodes.now }
     requires over { AreOver ring nodes.now }
@@ -92,6 +93,7 @@ fn keep(
     ensures exponent { IsErrOf result PolyError.Exponent → is_within_bound ring (part_at (parts_of nodes.now) k) ≡ false }
 {
     let value = formed(alloc, ring, nodes, k, values)?;
+    let value = Rc::new(alloc, value)?;
     values[k as usize - 1] = Some(value);
     Ok(())
 }
@@ -102,7 +104,7 @@ fn formed(
     ring: Ring,
     nodes: &[Node],
     k: u32,
-    values: &[Option<Matrix>],
+    values: &[Option<Rc<Matrix>>],
 ) -> Result<Matrix, PolyError>
     requires nodes { AreNodes nodes.now }
     requires over { AreOver ring nodes.now }
@@ -144,11 +146,20 @@ fn formed(
     }
 }
 
-/// The value of part k, which is there.
-pub(crate) fn operand(values: &[Option<Matrix>], k: u32) -> &Matrix
+// The value of part k, which is there.
+fn operand(values: &[Option<Rc<Matrix>>], k: u32) -> &Matrix
     requires low { 1 ≤ k }
     requires there { is_there values.now k ≡ true }
     ensures { (r : RingValue) (ps : List Part) → AreValues r ps values.entry.now → IsValue r (part_at ps k) result.now }
+{
+    kept(values, k).as_ref()
+}
+
+/// What is kept of part k, which is there.
+pub(crate) fn kept(values: &[Option<Rc<Matrix>>], k: u32) -> &Rc<Matrix>
+    requires low { 1 ≤ k }
+    requires there { is_there values.now k ≡ true }
+    ensures { (r : RingValue) (ps : List Part) → AreValues r ps values.entry.now → IsValue r (part_at ps k) result.now.value }
 {
     let Some(m) = &values[k as usize - 1] else {
         unreachable!();

@@ -12,9 +12,10 @@ pub mod form;
 pub(crate) mod judging;
 pub(crate) mod node;
 pub mod part_fault;
-pub(crate) mod shape;
+pub mod shape;
 pub mod table;
 
 pub use form::Form;
 pub use part_fault::PartFault;
+pub use shape::Shape;
 pub use table::Table;

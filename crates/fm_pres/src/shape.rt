@@ -5,13 +5,13 @@ ghost use Rattle.fm_parts.specs.Shapes.{SIZE};
 
 /// Numbers of rows and of columns.
 #[derive(Clone, Copy, Debug, PartialEq, Eq)]
-pub(crate) struct Shape {
+pub struct Shape {
     pub rows: u32,
     pub columns: u32,
 }
 
 impl Shape {
-    pub(crate) fn flip(self) -> Shape
+    pub fn flip(self) -> Shape
         ensures { result ≡ record { rows = self.columns; columns = self.rows } }
     {
         Shape {
@@ -21,7 +21,7 @@ impl Shape {
     }
 
     /// None where the numbers of rows differ, or the columns are too many.
-    pub(crate) fn beside(self, b: Shape) -> Option<Shape>
+    pub fn beside(self, b: Shape) -> Option<Shape>
         ensures { result ≡ where_so (nat_eq self.rows b.rows && nat_lt (self.columns + b.columns) SIZE)
             (Some (record { rows = self.rows; columns = self.columns + b.columns })) }
     {
@@ -36,7 +36,7 @@ impl Shape {
     }
 
     /// None where the numbers of columns differ, or the rows are too many.
-    pub(crate) fn stack(self, b: Shape) -> Option<Shape>
+    pub fn stack(self, b: Shape) -> Option<Shape>
         ensures { result ≡ where_so (nat_eq self.columns b.columns && nat_lt (self.rows + b.rows) SIZE)
             (Some (record { rows = self.rows + b.rows; columns = self.columns })) }
     {
@@ -51,7 +51,7 @@ impl Shape {
     }
 
     /// None where the columns are not as many as the rows of b.
-    pub(crate) fn times(self, b: Shape) -> Option<Shape>
+    pub fn times(self, b: Shape) -> Option<Shape>
         ensures { result ≡ where_so (nat_eq self.columns b.rows) (Some (record { rows = self.rows; columns = b.columns })) }
     {
         if self.columns != b.rows {
@@ -64,7 +64,7 @@ impl Shape {
     }
 
     /// The shape with so many columns in place of its own; None where they are too many.
-    pub(crate) fn pick(self, count: usize) -> Option<Shape>
+    pub fn pick(self, count: usize) -> Option<Shape>
         ensures { result ≡ where_so (nat_lt count SIZE) (Some (record { rows = self.rows; columns = count })) }
     {
         if count > u32::MAX as usize {

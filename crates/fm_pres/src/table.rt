@@ -1,12 +1,12 @@
 // Tables of parts.
-ghost use Rattle.std.specs.Prelude.{IfOk, IsErrOf, OnErr, [], false, length, true, ⊤, ◌≡◌};
+ghost use Rattle.std.specs.Prelude.{IfOk, IsErrOf, OnErr, [], false, length, true, ◌≡◌};
 ghost use Rattle.fm_parts.specs.Replays.{is_number};
-ghost use Rattle.fm_parts.specs.Shapes.{shape_of};
+ghost use Rattle.fm_parts.specs.Shapes.{fits, shape_of};
 ghost use Rattle.fm_parts.specs.Values.{is_within_bound};
 ghost use Rattle.fm_pres.specs.Kept.{IsValue};
 ghost use Rattle.fm_pres.specs.Tables.{IsOver, answer_to, part_at, parts_in, parts_with};
 
-use crate::evaluating::{evaluate, make_room, operand};
+use crate::evaluating::{evaluate, kept, make_room};
 use crate::form::Form;
 use crate::judging::{is_part, judged, node};
 use crate::node::Node;
@@ -15,13 +15,14 @@ use fm_mat::Matrix;
 use fm_poly::{PolyError, Ring};
 use std::alloc::{AllocError, Global};
 use std::marker::Model;
+use std::rc::Rc;
 
 /// The parts of a certificate, each given or made of earlier ones, with the values that were formed.
 #[derive(Drop)]
 pub struct Table {
     ring: Ring,
     nodes: Vec<Node>,
-    values: Vec<Option<Matrix>>,
+    values: Vec<Option<Rc<Matrix>>>,
 }
 
 impl Model for Table {
@@ -40,10 +41,6 @@ impl Model for Table {
 }
 
 impl Table {
-    ghost use Rattle.fm_pres.specs.contracts.table.Table.{the_row};
-    ghost use Rattle.std.specs.Borrow.{follows_so, sem};
-    ghost use mathlib.Core.Option.{none};
-
     /// A table without parts. It takes no memory.
     pub fn new(alloc: Global, ring: Ring) -> Table
         ensures { result ≡ record { ring = ring; forms = [] } }
@@ -86,21 +83,36 @@ impl Table {
     /// The numbers of rows and of columns of part k. It takes no memory.
     pub fn shape(&self, k: u32) -> (u32, u32)
         requires { is_number (parts_in self.now) k ≡ true }
-        ensures { result ≡ shape_of (part_at (parts_in self.now) k) }
+        ensures shape { result ≡ shape_of (part_at (parts_in self.now) k) }
+        ensures fits { fits (part_at (parts_in self.now) k) ≡ true }
     {
         let shape = node(&self.nodes, k).shape;
         (shape.rows, shape.columns)
     }
 
-    /// The value of part k. It is formed when it is first asked for, here or for a part that is made of it, and then kept.
-    pub fn value(&mut self, alloc: Global, k: u32) -> Result<&Matrix, PolyError>
+    pub fn ring(&self) -> Ring
+        ensures { result ≡ self.now.ring }
+    {
+        self.ring
+    }
+
+    /// The number of parts.
+    pub fn len(&self) -> u32
+        ensures { result ≡ length (parts_in self.now) }
+    {
+        self.nodes.len() as u32
+    }
+
+    /// The value of part k, shared with the table. It is formed when it is first asked for, here or for a part that is made of it, and then kept.
+    pub fn value(&mut self, alloc: Global, k: u32) -> Result<Rc<Matrix>, PolyError>
         requires { is_number (parts_in self.old) k ≡ true }
-        ensures value { IfOk result (λ m. IsValue self.old.ring (part_at (parts_in self.old) k) m.now) }
+        ensures value { IfOk result (λ m. IsValue self.old.ring (part_at (parts_in self.old) k) m.value) }
         ensures exponent { IsErrOf result PolyError.Exponent → is_within_bound self.old.ring (part_at (parts_in self.old) k) ≡ false }
-        ensures* unchanged { sem 𝓛 (follows_so the_row the_row self.entry.ghost_name none (λ _ _. ⊤) (λ t. t ≡ self.old)) }
+        ensures unchanged { self.new ≡ self.old }
     {
         make_room(k, &mut self.values)?;
         evaluate(alloc, self.ring, &self.nodes, k, &mut self.values)?;
-        Ok(operand(&self.values, k))
+        let value = kept(&self.values, k).clone()?;
+        Ok(value)
     }
 }

@@ -1,4 +1,4 @@
-use Rattle.std.proofs.Common.{rules, ◌≡◌, Option, Some, sym, ◌∙◌, subst}
+use Rattle.std.proofs.Common.{rules, ◌≡◌, Some, sym, ◌∙◌, subst}
 use Rattle.fm_pres.specs.Nodes.{parts_of}
 use Rattle.fm_pres.specs.Tables.{tree_of}
 use Rattle.fm_pres.specs.Kept.{operands_of}

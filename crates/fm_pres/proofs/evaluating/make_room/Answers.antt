@@ -1,4 +1,4 @@
-use Rattle.std.proofs.Common.{sym, subst, length, arith}
+use Rattle.std.proofs.Common.{sym, subst, arith}
 use Rattle.fm_pres.specs.Kept.{AreValues}
 use Rattle.fm_pres.proofs.Values.{values_room}
 use Rattle.fm_pres.proofs.evaluating.make_room.Goals as goal

@@ -1,4 +1,4 @@
-use Rattle.std.proofs.Common.{◌≡◌, ℕ, ap, refl, sym, length, nat_le, nat_lt}
+use Rattle.std.proofs.Common.{refl}
 use Rattle.std.proofs.lemmas.Bool.{lt-ltb}
 use Rattle.fm_pres.proofs.Nodes.{parts_length}
 use Rattle.fm_pres.proofs.judging.is_part.Goals as goal

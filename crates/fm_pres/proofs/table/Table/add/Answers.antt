@@ -1,5 +1,5 @@
-use Rattle.std.proofs.Common.{◌≡◌, ℕ, ◌+◌, ◌<◌, true, sym, subst, ap, ◌∙◌, length, arith}
-use Rattle.fm_pres.specs.Tables.{TableValue, IsOver, parts_in}
+use Rattle.std.proofs.Common.{◌≡◌, ◌+◌, ◌<◌, sym, subst, ap, length, arith}
+use Rattle.fm_pres.specs.Tables.{TableValue, IsOver}
 use Rattle.fm_pres.specs.Nodes.{parts_of}
 use Rattle.fm_pres.specs.declared.node.Node.{Node}
 use Rattle.fm_pres.proofs.Tables.{refused, refused_parts, taken}

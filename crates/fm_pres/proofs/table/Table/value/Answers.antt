@@ -1,6 +1,5 @@
 use Rattle.std.proofs.Common.{rules, ◌≡◌, true, false, ◌≤◌, List, length, refl, sym, subst}
-use Rattle.fm_report.specs.Parts.{Part}
-use Rattle.fm_poly.specs.declared.ring.Ring.{Ring}
+use Rattle.fm_mat.specs.Matrices.{MatrixValue}
 use Rattle.fm_parts.specs.Replays.{is_number}
 use Rattle.fm_parts.specs.Values.{is_within_bound}
 use Rattle.fm_pres.specs.Tables.{part_at, parts_in}
@@ -30,28 +29,15 @@ evaluate-requires-clause-values c =
     subst (λ (ms : List Node). AreValues r (parts_of ms) c.make_room.new.values.items) (sym c.deref.ensures.value)
     (c.make_room.ensures.values r (parts_of ns) high c.self.invariant.2)
 
-pub returns-in_err-evaluate : goal.returns-in_err-evaluate
-returns-in_err-evaluate c = (
-  (refl, λ w. tt, c.self.view_is),
-  record {
-    value = search rules;
-    exponent = λ why.
-        carried (λ r ps. is_within_bound r (part_at ps c.args.k) ≡ false) c.args.self.now c.self.inside.ring c.self.inside.nodes.items c.deref.result.now c.self.view_is
-        c.deref.ensures.value (c.in_err-evaluate.ensures.exponent (search rules));
-    unchanged = tt;
-  },
-)
+pub returns-in_err-evaluate-clause-exponent : goal.returns-in_err-evaluate-clause-exponent
+returns-in_err-evaluate-clause-exponent c = λ why.
+    carried (λ r ps. is_within_bound r (part_at ps c.args.k) ≡ false) c.args.self.now c.self.inside.ring c.self.inside.nodes.items c.deref.result.now c.self.view_is
+    c.deref.ensures.value (c.in_err-evaluate.ensures.exponent (search rules))
 
-pub returns : goal.returns
-returns c = (
-  (refl, λ w. tt, c.self.view_is),
-  record {
-    value =
-        carried (λ r ps. IsValue r (part_at ps c.args.k) c.operand.result.now) c.args.self.now c.self.inside.ring c.self.inside.nodes.items c.deref.result.now c.self.view_is
-        c.deref.ensures.value
-        (c.operand.ensures c.self.inside.ring (parts_of c.deref.result.now)
-        (subst (AreValues c.self.inside.ring (parts_of c.deref.result.now)) (sym c.deref-2.ensures.value) c.in_ok-evaluate.ensures.values));
-    exponent = search rules;
-    unchanged = tt;
-  },
-)
+pub returns-clause-value : goal.returns-clause-value
+returns-clause-value c =
+    carried (λ r ps. IsValue r (part_at ps c.args.k) c.in_ok-value.value.value) c.args.self.now c.self.inside.ring c.self.inside.nodes.items c.deref.result.now c.self.view_is
+    c.deref.ensures.value
+    (subst (λ (m : MatrixValue). IsValue c.self.inside.ring (part_at (parts_of c.deref.result.now) c.args.k) m) (sym c.in_ok-value.ensures.cases)
+    (c.kept.ensures c.self.inside.ring (parts_of c.deref.result.now)
+    (subst (AreValues c.self.inside.ring (parts_of c.deref.result.now)) (sym c.deref-2.ensures.value) c.in_ok-evaluate.ensures.values)))

@@ -1,0 +1,13 @@
+pub mod AnswersSaid
+pub mod ColumnsRead
+pub mod FirstWords
+pub mod GeneratorsRead
+pub mod Literals
+pub mod PartsLeft
+pub mod PlainKinds
+pub mod PlainOver
+pub mod PlainRows
+pub mod PolynomialsRead
+pub mod VersionsSaid
+pub mod EntriesRead
+pub mod RowsSaid

@@ -1,0 +1,13 @@
+pub mod Ends
+pub mod Forms
+pub mod GeneratorWords
+pub mod Groups
+pub mod KindLines
+pub mod Left
+pub mod Plain
+pub mod PlainKinds
+pub mod PlainRows
+pub mod Rows
+pub mod Shapes
+pub mod TextLines
+pub mod Versions
