@@ -1,0 +1,3 @@
+pub mod AllLines
+pub mod WithoutExponents
+pub mod TaskWords
