@@ -1,10 +1,10 @@
-// The conditions of certificate lines, tested by a program: exactly as they are defined, each value formed when a condition asks for it.
+// Conditions of certificate lines, and of the matrices that they speak of whether the shapes fit, and the values, each formed when it is asked for.
 //
 // What the calls cost:
 // - shapes are compared before any value is formed;
 // - a part's value is formed once and kept in the table; sums of blocks, products and twists that a condition makes of parts are formed for it
 //   and given back;
-// - an equation and a product that has to vanish are compared entry by entry.
+// - two matrices are compared entry by entry.
 #![tactic(auto)]
 
 pub(crate) mod comparing;
