@@ -36,4 +36,5 @@ pub use grid::{Grid, Naming, Slot};
 pub use heads::{push_head, push_query};
 pub use line::Line;
 pub use naming::Forms;
+pub use printing::{is_numbered, task_word};
 pub use writing::push_lines;

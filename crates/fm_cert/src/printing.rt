@@ -173,7 +173,8 @@ fn push_side(side: Side, out: &mut Vec<u8>) -> Result<(), AllocError>
     }
 }
 
-fn task_word(name: Name) -> &'static [u8]
+/// The word of a task in lines.
+pub fn task_word(name: Name) -> &'static [u8]
     ensures { result.now ≡ word_of_task name }
 {
     match name {
@@ -200,7 +201,8 @@ fn task_word(name: Name) -> &'static [u8]
     }
 }
 
-fn is_numbered(name: Name) -> bool
+/// Whether a number stands after the word of a task.
+pub fn is_numbered(name: Name) -> bool
     ensures { result ≡ numbered name }
 {
     matches!(

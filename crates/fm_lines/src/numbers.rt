@@ -1,6 +1,5 @@
 // Numbers in lines.
 ghost use Rattle.std.specs.Prelude.{◌≡◌, option_map};
-ghost use Rattle.fm_words.specs.Words.{is_exact as is_exact_word};
 ghost use Rattle.fm_cert.specs.Fields.{exact_number as exact_number_of, first_word};
 ghost use Rattle.fm_lines.specs.Left.{left};
 ghost use Rattle.fm_lines.specs.Plain.{plain_row};
@@ -8,16 +7,7 @@ ghost use Rattle.fm_lines.specs.Shapes.{five_numbers, four_numbers, generated_sa
 
 use crate::Generated;
 use crate::words::{Words, first_of, is_end};
-use fm_words::{is_number, number as number_of};
-
-fn is_exact(digits: &[u8]) -> bool
-    ensures { result ≡ is_exact_word digits.now }
-{
-    match digits.split_first() {
-        Some((first, rest)) => rest.is_empty() || *first != b'0',
-        None => false,
-    }
-}
+use fm_words::{is_exact, is_number, number as number_of};
 
 /// The number that a word is, in decimal digits without leading zeros.
 #[tactic(auto, unfolding(fm_cert::specs::Fields::exact_number))]

@@ -39,4 +39,4 @@ pub use lifts::lift_columns;
 pub use preimages::Preimage;
 pub use spanning::is_in_image;
 pub use trimming::trim;
-pub use twisting::twisted;
+pub use twisting::{twisted, twisted_members};

@@ -31,7 +31,8 @@ pub fn twisted(alloc: Global, g: &Graph, e: u8) -> Result<Graph, PolyError>
     Ok(Graph::new(matrix, members, log))
 }
 
-fn twisted_members(
+/// The members of a completed graph, each twisted by p^e. Linear in their terms.
+pub fn twisted_members(
     alloc: Global,
     ring: Ring,
     rows: u32,

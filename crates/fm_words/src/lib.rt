@@ -12,7 +12,7 @@ pub mod words;
 pub use lines::{Line, Lines, end_of, next_line};
 pub use mark::Mark;
 pub use names::is_name;
-pub use numbers::{is_number, number};
+pub use numbers::{is_exact, is_number, number};
 pub use parts::{first_part, two_parts};
 pub use read_error::ReadError;
 pub use words::{is_blank, next_word, one_word, three_words, two_words};

@@ -1,7 +1,7 @@
 // Numbers in decimal digits.
 ghost use Rattle.std.specs.Prelude.{◌≡◌};
 ghost use Rattle.std.specs.List.{list_all};
-ghost use Rattle.fm_words.specs.Words.{is_digit as is_digit_byte, is_number as is_number_word, small, value};
+ghost use Rattle.fm_words.specs.Words.{is_digit as is_digit_byte, is_exact as is_exact_word, is_number as is_number_word, small, value};
 
 fn is_digit(byte: u8) -> bool
     ensures { result ≡ is_digit_byte byte }
@@ -30,6 +30,16 @@ pub fn is_number(word: &[u8]) -> bool
 {
     match word.split_first() {
         Some((first, rest)) => is_digit(*first) && are_digits(rest),
+        None => false,
+    }
+}
+
+/// Whether the word is not empty and has no leading zero.
+pub fn is_exact(word: &[u8]) -> bool
+    ensures { result ≡ is_exact_word word.now }
+{
+    match word.split_first() {
+        Some((first, rest)) => rest.is_empty() || *first != b'0',
         None => false,
     }
 }
