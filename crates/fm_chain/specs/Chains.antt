@@ -1,12 +1,16 @@
--- Chains of kernels as the program holds them, and what they mean.
+-- Chains of kernels as the program holds them, and what they mean (Lyubeznik 1997, section 2).
 use Rattle.std.specs.Prelude.{ℕ, suc, ◌≡◌, List, [], ◌∷◌, map, length, get_or, Option, Some, None, Vec}
 use Rattle.std.specs.Global.{Global}
 use Rattle.fm_poly.specs.declared.ring.Ring.{Ring}
 use Rattle.fm_poly.specs.Polys.{PolyValue}
 use Rattle.fm_mat.specs.declared.column.Column.{Column}
-use Rattle.fm_mat.specs.Matrices.{columns_meaning}
+use Rattle.fm_mat.specs.Matrices.{columns_meaning, matrix_meaning}
 use Rattle.fm_run.specs.Turns.{Turn, last, again}
 use Rattle.fm_graphs.specs.Graphs as runs
+use Rattle.fm_graphs.specs.Graphs.{MatrixOf}
+use Rattle.fm_graphs.specs.Trims.{Preimage}
+use Rattle.fm_limit.specs.Facts.{ColumnsInImage, IsChain, IsFirstRepeat}
+use Rattle.fm_limit.specs.ResolvedIdeal.{matrix_at}
 use Rattle.fm_plan.specs.Results as plans
 use Rattle.fm_plan.specs.Base.{Links, linked}
 use Rattle.fm_syz.specs.GraphValues.{GraphValue, graph_meaning}
@@ -51,6 +55,16 @@ module _ (r : Ring) (relations : GraphValue) where
     stable = graph_meaning r (member_graph relations c.links (length c.growth));
     w = record { rows = runs.width r (graph_meaning r (member_graph relations c.links (length c.growth))); columns = columns_meaning r c.w };
   }
+
+  -- K_0, K_1, .., where K_0 are the relations
+  abbrev pub kernels_of : ChainValue → List (MatrixOf r)
+  kernels_of c = matrix_meaning r relations.matrix ∷ map (λ (x : Preimage r). x.found) (map (preimage_meaning r) c.links)
+
+  -- Each K_(s+1) generates what U sends into the image of the twist of K_s, and t is the first place with K_(t+1) inside of K_t.
+  pub record IsKernelChain (U : MatrixOf r) (c : ChainValue) : Type 0 where
+    pub chain : IsChain r.prime r.vars U (kernels_of c) (suc (length c.growth))
+    pub repeats : ColumnsInImage r.prime r.vars (matrix_at r.prime r.vars (kernels_of c) (length c.growth)) (matrix_at r.prime r.vars (kernels_of c) (suc (length c.growth)))
+    pub first : IsFirstRepeat r.prime r.vars (kernels_of c) (length c.growth)
 
   -- members that have all grown
   abbrev pub links_meaning : List PreimageValue → List Outside → Links r

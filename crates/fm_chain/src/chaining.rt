@@ -1,6 +1,6 @@
 // The chain of kernels of a generating morphism.
 ghost use Rattle.std.specs.Prelude.{IfOk, None, OnOk, length, ◌<◌, ◌≡◌, ◌≤◌};
-ghost use Rattle.fm_chain.specs.Chains.{AreMembersOf, chain_meaning, links_meaning, turn_value, with_last};
+ghost use Rattle.fm_chain.specs.Chains.{AreMembersOf, IsKernelChain, chain_meaning, links_meaning, turn_value, with_last};
 ghost use Rattle.fm_mat.specs.Matrices.{matrix_meaning};
 ghost use Rattle.fm_plan.specs.Base.{chain_of, chain_turn, chain_work};
 ghost use Rattle.fm_plan.specs.Following.{FollowsPlan};
@@ -14,8 +14,32 @@ use fm_run::{Name, Side, Stop, Stopped, Task, Work, in_task};
 use fm_syz::{Graph, Inside, Outside, Preimage};
 use std::alloc::Global;
 
-/// The chain of kernels of u, from the graph of the relations: the tasks `chain 1`, `chain 2`, .. up to the first repeat.
+/// The chain of kernels of u, from the graph of the relations, through its first repeat: the tasks `chain 1`, `chain 2`, ..
 pub fn kernel_chain(
+    alloc: Global,
+    side: Side,
+    u: &Matrix,
+    relations: &Graph,
+    work: &mut Work,
+) -> Result<Chain, Stopped>
+    requires some { 1 ≤ relations.now.matrix.ring.vars }
+    requires few { relations.now.matrix.ring.vars ≤ 8 }
+    requires ring { u.now.ring ≡ relations.now.matrix.ring }
+    requires rows { u.now.rows ≡ relations.now.matrix.rows }
+    requires square { length u.now.columns ≡ relations.now.matrix.rows }
+    ensures follows { let r = relations.now.matrix.ring in FollowsPlan (chain_meaning r relations.now) result work.old work.new
+        (chain_of r side (matrix_meaning r u.now) (graph_meaning r relations.now) work.old) }
+    ensures members { IfOk result (λ c. AreMembersOf relations.now.matrix.ring relations.now.matrix.rows c.links) }
+    ensures chain { let r = relations.now.matrix.ring in IfOk result (IsKernelChain r relations.now (matrix_meaning r u.now)) }
+{
+    // What the columns and the graph tell: all columns have as many entries, and the graph is complete.
+    let _columns = u.columns();
+    let _relations = relations.matrix();
+    first_repeat(alloc, side, u, relations, work)
+}
+
+/// The links, up to the first repeat.
+fn first_repeat(
     alloc: Global,
     side: Side,
     u: &Matrix,

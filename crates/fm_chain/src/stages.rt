@@ -1,7 +1,7 @@
 // After how many moves a class is a coboundary.
-ghost use Rattle.std.specs.Prelude.{None, length, map, ◌≡◌};
-ghost use Rattle.fm_chain.specs.Stages.{AreGraphsOf, killed_value};
-ghost use Rattle.fm_mat.specs.Matrices.{column_meaning};
+ghost use Rattle.std.specs.Prelude.{IfOk, None, length, map, ◌≡◌};
+ghost use Rattle.fm_chain.specs.Stages.{AreGraphsOf, IsLeast, killed_value};
+ghost use Rattle.fm_mat.specs.Matrices.{column_meaning, matrix_meaning};
 ghost use Rattle.fm_plan.specs.Following.{FollowsPlan};
 ghost use Rattle.fm_plan.specs.Queries as plans;
 ghost use Rattle.fm_syz.specs.GraphValues.{graph_meaning};
@@ -40,6 +40,7 @@ pub fn kill_stage(
     requires graphs { AreGraphsOf ring (length w.now) (map (λ g. g.now) graphs.now) }
     ensures follows { FollowsPlan (killed_value ring) result work.old work.new
         (plans.stages ring e (column_meaning ring w.now) 0 None (map (λ g. graph_meaning ring g.now) graphs.now) work.old) }
+    ensures least { IfOk result (IsLeast ring e (column_meaning ring w.now) (map (λ g. matrix_meaning ring g.now.matrix) graphs.now)) }
 {
     let mut before = None;
     let mut moves = 0;

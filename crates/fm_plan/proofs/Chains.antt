@@ -71,7 +71,7 @@ module _ (r : Ring) (side : Side) (U N : MatrixOf r) (square : HasShape r.prime 
   abbrev n : ℕ
   n = r.vars
 
-  abbrev Members : List (Preimage r) → List (MatrixOf r)
+  abbrev pub Members : List (Preimage r) → List (MatrixOf r)
   Members links = N ∷ map (λ (y : Preimage r). y.found) links
 
   members_more : (links : List (Preimage r)) (x : Preimage r) → Members (links ++ x ∷ []) ≡ Members links ++ x.found ∷ []

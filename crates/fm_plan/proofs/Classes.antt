@@ -130,15 +130,15 @@ module _ (r : Ring) where
 
   -- ---- stages
   module _ (Ks : List (MatrixOf r)) (e : ℕ) (w : VectorOf r) where
-    abbrev Dies : ℕ → Type 0
+    abbrev pub Dies : ℕ → Type 0
     Dies s = InImage p n (matrix_twist p n e (matrix_at p n Ks s)) w
 
     -- the graphs of K_s, K_(s+1), .., each with as many rows as w has entries
-    abbrev StageGraphs : ℕ → List (Graph r) → Type 0
+    abbrev pub StageGraphs : ℕ → List (Graph r) → Type 0
     StageGraphs s [] = Unit {0}
     StageGraphs s (g ∷ gs) = IsCompletedGraph r g × (g.matrix ≡ matrix_at p n Ks s) × (length w ≡ g.matrix.rows) × StageGraphs (suc s) gs
 
-    abbrev KilledSays : ℕ → Killed r → Type 0
+    abbrev pub KilledSays : ℕ → Killed r → Type 0
     KilledSays end (killed_at s v before) = (s < end) × Dies s × ((k : ℕ) → k < s → ¬ (Dies k))
     KilledSays end (never_killed before) = (k : ℕ) → k < end → ¬ (Dies k)
 
@@ -156,7 +156,7 @@ module _ (r : Ring) where
         go (all_inside ws) h same says = subst (λ A. InImage p n A w) same (get_or ws 0 [], says.0, says.1)
         go (first_outside o) h same says = λ i. says (subst (λ A. InImage p n A w) (sym same) i)
 
-    stages_say : (s : ℕ) (before : Option Outside) (gs : List (Graph r)) → StageGraphs s gs → ((k : ℕ) → k < s → ¬ (Dies k)) → (units left : ℕ) (y : Killed r) → Ends (stages r e w s before gs units) y left → KilledSays (s + length gs) y
+    pub stages_say : (s : ℕ) (before : Option Outside) (gs : List (Graph r)) → StageGraphs s gs → ((k : ℕ) → k < s → ¬ (Dies k)) → (units left : ℕ) (y : Killed r) → Ends (stages r e w s before gs units) y left → KilledSays (s + length gs) y
     stages_say s before [] G none units left y ends = subst (KilledSays (s + 0)) (same_value (never_killed before) y units left ends) (λ k h. none k (omega arith))
     stages_say s before (g ∷ gs) G none units left y ends =
         let a = bound (task Alone names.Stage s (lift_at r e g w)) (killed_or r s before (λ o. stages r e w (suc s) (Some o) gs)) units left y ends in

@@ -80,7 +80,7 @@ module _ (r : Ring) (K : MatrixOf r) (shape : HasShape r.prime r.vars K.rows (le
     colons : Partial (Members c.colons) (length c.colons)
     proper : IsEverything p n c.graph.matrix → ⊥
 
-  abbrev Lands : ℕ → Type 0
+  abbrev pub Lands : ℕ → Type 0
   Lands k = ColumnsInImage p n K (matrix_scalar p n (polynomial_power p n k f) K.rows)
 
   abbrev pub ColonsSay : Coloned r → Type 0

@@ -1,10 +1,11 @@
 -- Inverting a polynomial: the program's answers, and the part of the plan that begins with a graph of the stable kernel.
-use Rattle.std.specs.Prelude.{ℕ, ◌<◌, ◌≡◌, List, [], ◌∷◌, map, Option, option_map}
-use Rattle.fm_algebra.specs.Polynomials.{Polynomial}
+use Rattle.std.specs.Prelude.{ℕ, suc, ◌<◌, ◌≡◌, List, [], ◌∷◌, map, Option, option_map}
+use Rattle.fm_algebra.specs.Polynomials.{Polynomial, polynomial_power}
 use Rattle.fm_algebra.specs.PolynomialMatrices.{matrix_scalar}
-use Rattle.fm_graphs.specs.Graphs.{Graph, inside_run, whole_run}
+use Rattle.fm_graphs.specs.Graphs.{Graph, MatrixOf, inside_run, whole_run}
 use Rattle.fm_graphs.specs.Graphs as runs
 use Rattle.fm_graphs.specs.Trims.{Preimage, preimage_run}
+use Rattle.fm_limit.specs.Facts.{ColumnsInImage}
 use Rattle.fm_mat.specs.Matrices.{matrix_meaning}
 use Rattle.fm_poly.specs.declared.ring.Ring.{Ring}
 use Rattle.fm_run.specs.Runs.{Work, ready, ◌>>=◌}
@@ -40,6 +41,15 @@ module _ (r : Ring) where
   abbrev pub inverted_value : Inverted → plans.Inverted r
   inverted_value (Power k w before) = plans.by_power k (matrix_meaning r w) (option_map outside_value before)
   inverted_value (Never colons w proper) = plans.never_inverted (preimages_meaning colons.items) (matrix_meaning r w) (outside_value proper)
+
+  -- f^j annihilates the cokernel of K: the columns of f^j times the unit matrix are in the image of K
+  abbrev pub Annihilates : MatrixOf r → Polynomial r.prime r.vars → ℕ → Type 0
+  Annihilates K f j = ColumnsInImage r.prime r.vars K (matrix_scalar r.prime r.vars (polynomial_power r.prime r.vars j f) K.rows)
+
+  -- f^k does, and f^(k-1) does not; or no power of f does
+  abbrev pub IsLeastPower : MatrixOf r → Polynomial r.prime r.vars → Inverted → Type 0
+  IsLeastPower K f (Power k w before) = Annihilates K f k × ((j : ℕ) → suc j ≡ k → ¬ (Annihilates K f j))
+  IsLeastPower K f (Never colons w proper) = (j : ℕ) → ¬ (Annihilates K f j)
 
   -- `colon 0`, `colon 1`, .. and `power`, for a graph of the stable kernel
   unfoldable pub invert_plan : Polynomial r.prime r.vars → Graph r → Plan (plans.Inverted r)

@@ -1,5 +1,5 @@
 // Whether a polynomial inverts the stable kernel.
-ghost use Rattle.std.specs.Prelude.{option_map, ◌≡◌, ◌≤◌};
+ghost use Rattle.std.specs.Prelude.{IfOk, option_map, ◌≡◌, ◌≤◌};
 ghost use Rattle.fm_graphs.specs.Graphs.{inside_run};
 ghost use Rattle.fm_algebra.specs.PolynomialMatrices.{matrix_scalar};
 ghost use Rattle.fm_mat.specs.Matrices.{matrix_meaning};
@@ -11,7 +11,7 @@ ghost use Rattle.fm_poly.specs.Polys.{meaning};
 ghost use Rattle.fm_poly.specs.declared.ring.Ring.{Ring};
 ghost use Rattle.fm_plan.specs.Queries.{outside_of};
 ghost use Rattle.fm_run.specs.Runs.{Follows};
-ghost use Rattle.fm_support.specs.Inverting.{invert_plan, inverted_value, outside_value};
+ghost use Rattle.fm_support.specs.Inverting.{IsLeastPower, invert_plan, inverted_value, outside_value};
 ghost use Rattle.fm_support.specs.Powers.{power_work, scalar_lift};
 ghost use Rattle.fm_syz.specs.GraphValues.{graph_meaning};
 ghost use Rattle.fm_syz.specs.Insides.{inside_value};
@@ -44,6 +44,20 @@ pub enum Inverted {
 /// The least power of f whose multiple of the unit matrix lies in the image of the graph's matrix, by the tasks `colon 0`, `colon 1`, .. and
 /// `power`.
 pub fn invert(alloc: Global, k: &Graph, f: &Poly, work: &mut Work) -> Result<Inverted, Stopped>
+    requires ring { f.now.ring ≡ k.now.matrix.ring }
+    requires some { 1 ≤ k.now.matrix.ring.vars }
+    requires few { k.now.matrix.ring.vars ≤ 8 }
+    ensures follows { let r = k.now.matrix.ring in FollowsPlan (inverted_value r) result work.old work.new
+        (invert_plan r (meaning r f.now.terms) (graph_meaning r k.now) work.old) }
+    ensures least { let r = k.now.matrix.ring in IfOk result (IsLeastPower r (matrix_meaning r k.now.matrix) (meaning r f.now.terms)) }
+{
+    // What the graph tells: it is complete.
+    let _matrix = k.matrix();
+    power_or_colons(alloc, k, f, work)
+}
+
+// The power, or the colons.
+fn power_or_colons(alloc: Global, k: &Graph, f: &Poly, work: &mut Work) -> Result<Inverted, Stopped>
     requires ring { f.now.ring ≡ k.now.matrix.ring }
     requires some { 1 ≤ k.now.matrix.ring.vars }
     requires few { k.now.matrix.ring.vars ≤ 8 }

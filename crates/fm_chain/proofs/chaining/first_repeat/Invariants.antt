@@ -6,7 +6,7 @@ use Rattle.fm_plan.specs.Base.{chain_of, chain_turn}
 use Rattle.fm_plan.specs.Tasks.{out_of_units}
 use Rattle.fm_syz.specs.GraphValues.{graph_meaning}
 use Rattle.fm_chain.specs.Chains.{AreMembersOf, links_meaning}
-use Rattle.fm_chain.proofs.chaining.kernel_chain.Given as goal
+use Rattle.fm_chain.proofs.chaining.first_repeat.Given as goal
 
 abbrev pub invariant-members : goal.invariant-members
 invariant-members l = record {
