@@ -1,5 +1,5 @@
 -- What the claims of the lines on an answer show, where they hold, in each place.
-use Rattle.std.proofs.Common.{◌≡◌, ℕ, suc, ◌+◌, ◌-◌, Bool, true, false, nat_lt, if◌then◌else◌, List, [], ◌∷◌, ◌++◌, length, Option, Some, None, option_map, refl, sym, ap, subst, arith}
+use Rattle.std.proofs.Common.{◌≡◌, ℕ, suc, ◌+◌, ◌-◌, Bool, true, false, nat_lt, if◌then◌else◌, List, [], ◌∷◌, ◌++◌, length, Option, Some, None, option_map, refl, sym, ap, subst, arith, ◌∙◌}
 use Rattle.std.proofs.lemmas.Bool.{ltb-true}
 use Rattle.fm_words.specs.Options.{◌>>=◌}
 use Rattle.fm_limit.specs.Verdicts.{zero_limit, zero_class, inverting, support, member}
@@ -146,17 +146,21 @@ module _ (q : Problem) (g : Goal) (ls : List Part) (fine : IsFineAim g.degree g.
         )
 
     pub on_least : (f : PolyValue) (t k : ℕ) (b : Block) → FactsAt q g ls (places.least f t k) (Some b) → (n c : ℕ) (by : List ℕ) (cs : List Condition)
-        → (numbered b.kernels (suc t) >>= λ K. excluded r g b parts logs 0 K (power_part r f k (rows_of K)) n c by) ≡ Some cs → Shows places.end (Some b) cs
+        → (numbered b.kernels (suc t) >>= λ K. option_map (λ cs. equal (factored_part r f k) (factored_part r f k) ∷ cs) (excluded r g b parts logs 0 K (power_part r f k (rows_of K)) n c by)) ≡ Some cs
+        → Shows places.end (Some b) cs
     on_least f t k b F n c by cs e =
-        let a = followed (numbered b.kernels (suc t)) (λ K. excluded r g b parts logs 0 K (power_part r f k (rows_of K)) n c by) cs e in
-        let X = excluded_is q g ls fine parts good logs sound b 0 a.0 (power_part r f k (rows_of a.0)) n c by cs a.2 in
-        subst (Shows places.end (Some b)) X.is (
-          (X.sound_log, tt),
+        let formed = λ (cs : List Condition). equal (factored_part r f k) (factored_part r f k) ∷ cs in
+        let after = λ (K : Part). excluded r g b parts logs 0 K (power_part r f k (rows_of K)) n c by in
+        let a = followed (numbered b.kernels (suc t)) (λ K. option_map formed (after K)) cs e in
+        let v = mapped formed (after a.0) cs a.2 in
+        let X = excluded_is q g ls fine parts good logs sound b 0 a.0 (power_part r f k (rows_of a.0)) n c by v.0 v.1 in
+        subst (Shows places.end (Some b)) (ap formed X.is ∙ v.2) (
+          (tt, (X.sound_log, tt)),
           λ all. (
             inverting g.degree (ideal_of r g b) (meaning r f.terms) (Some (suc k)),
             ap (λ x. stated_of r g ls x (Some b)) F.1.0,
             inverted_right r g t b F.1.1 f (suc k) F.1.2
-                (λ j s. let same : k ≡ j = omega (arith, s) in subst (λ j. ¬ (Lands r g t b F.1.1 f j)) same (lands_not r g t b F.1.1 f k X.log a.0 c by a.1 X.some X.few all.0)),
+                (λ j s. let same : k ≡ j = omega (arith, s) in subst (λ j. ¬ (Lands r g t b F.1.1 f j)) same (lands_not r g t b F.1.1 f k X.log a.0 c by a.1 X.some X.few (all.1).0)),
           ),
         )
 
@@ -211,20 +215,23 @@ module _ (q : Problem) (g : Goal) (ls : List Part) (fine : IsFineAim g.degree g.
 
     -- ---- supports
     pub on_annihilator : (ideal : List PolyValue) (t : ℕ) (b : Block) → FactsAt q g ls (places.annihilator ideal t) (Some b) → (k n x w : ℕ) (cs : List Condition)
-        → (numbered b.kernels (suc t) >>= λ K. numbered parts k >>= λ P. generated r g b parts logs (λ log X W. preimage log (unit_column_part r (rows_of K)) (blocks_part r K) P X W) n x w (lists ideal P ∷ [])) ≡ Some cs
+        → (numbered b.kernels (suc t) >>= λ K. numbered parts k >>= λ P. option_map (λ cs. equal K K ∷ cs)
+        (generated r g b parts logs (λ log X W. preimage log (unit_column_part r (rows_of K)) (blocks_part r K) P X W) n x w (lists ideal P ∷ []))) ≡ Some cs
         → Shows places.end (Some b) cs
     on_annihilator ideal t b F k n x w cs e =
         let says = λ (K P : Part) (log : Log) (X W : Part). preimage log (unit_column_part r (rows_of K)) (blocks_part r K) P X W in
+        let formed = λ (K : Part) (cs : List Condition). equal K K ∷ cs in
         let after = λ (K P : Part). generated r g b parts logs (says K P) n x w (lists ideal P ∷ []) in
-        let a = followed (numbered b.kernels (suc t)) (λ K. numbered parts k >>= after K) cs e in
-        let p = followed (numbered parts k) (after a.0) cs a.2 in
-        let G = generated_is q g ls fine parts good logs sound b (says a.0 p.0) n x w (lists ideal p.0 ∷ []) cs p.2 in
-        subst (Shows places.end (Some b)) G.is (
-          (G.sound_log, (tt, tt)),
+        let a = followed (numbered b.kernels (suc t)) (λ K. numbered parts k >>= λ P. option_map (formed K) (after K P)) cs e in
+        let p = followed (numbered parts k) (λ P. option_map (formed a.0) (after a.0 P)) cs a.2 in
+        let v = mapped (formed a.0) (after a.0 p.0) cs p.2 in
+        let G = generated_is q g ls fine parts good logs sound b (says a.0 p.0) n x w (lists ideal p.0 ∷ []) v.0 v.1 in
+        subst (Shows places.end (Some b)) (ap (formed a.0) G.is ∙ v.2) (
+          (tt, (G.sound_log, (tt, tt))),
           λ all. (
             support g.degree (ideal_of r g b) (meant r ideal),
             ap (λ x. stated_of r g ls x (Some b)) F.1.0,
-            support_right r g t b F.1.1 ideal a.0 p.0 G.X G.W G.log (good_at parts k p.0 good p.1) a.1 all.0 (all.1).0,
+            support_right r g t b F.1.1 ideal a.0 p.0 G.X G.W G.log (good_at parts k p.0 good p.1) a.1 (all.1).0 ((all.1).1).0,
           ),
         )
 

@@ -39,7 +39,7 @@ scalar_part r a n = printed_part r (matrix_scalar r.prime r.vars a n)
 abbrev pub power_part : (r : Ring) → PolyValue → (k n : ℕ) → Part
 power_part r f k n = scalar_part r (polynomial_power r.prime r.vars k (meaning r f.terms)) n
 
--- f^k, as a product of k factors: its value is formed by k products
+-- f^k, as a product of k factors: its value is formed by k products. That it equals itself says that it can be formed, and so for a part.
 abbrev pub factored_part : Ring → PolyValue → ℕ → Part
 factored_part r f zero = unit_part r 1
 factored_part r f (suc k) = times (factored_part r f k) (given 1 ((f ∷ []) ∷ []))
@@ -200,7 +200,8 @@ module _ (r : Ring) (g : Goal) (b : Block) (parts : List Part) (logs : List Log)
   claim (power f t k) kinds.Power (w, u) =
       claims (kernel_at t >>= λ K. option_map (λ W. equal (factored_part r f k) (factored_part r f k) ∷ equal (power_part r f k (rows_of K)) (times K W) ∷ []) (numbered parts w))
       (after_power f t k)
-  claim (least f t k) kinds.Least (n, (c, (by, u))) = claims (kernel_at t >>= λ K. excluded 0 K (power_part r f k (rows_of K)) n c by) end
+  claim (least f t k) kinds.Least (n, (c, (by, u))) =
+      claims (kernel_at t >>= λ K. option_map (λ cs. equal (factored_part r f k) (factored_part r f k) ∷ cs) (excluded 0 K (power_part r f k (rows_of K)) n c by)) end
   claim (colon f t found) kinds.Colon (i, (k, (n, (x, (w, u))))) =
       where_so (nat_eq i (suc (length found))) (of_part (numbered parts k) (λ P. claims (on_colon f t found P n x w) (colon f t (found ++ P ∷ []))))
   claim (colon f t found) kinds.Settles (i, (w, u)) =
@@ -210,7 +211,7 @@ module _ (r : Ring) (g : Goal) (b : Block) (parts : List Part) (logs : List Log)
       claims (colon_at t found (length found - 1) >>= λ C. excluded 0 C (unit_part r (rows_of C)) n c by) end
   claim (annihilator ideal t) kinds.Annihilator (k, (n, (x, (w, u)))) =
       claims (kernel_at t >>= λ K. numbered parts k >>= λ P.
-      generated (λ log X W. preimage log (unit_column_part r (rows_of K)) (blocks_part r K) P X W) n x w (lists ideal P ∷ [])) end
+      option_map (λ cs. equal K K ∷ cs) (generated (λ log X W. preimage log (unit_column_part r (rows_of K)) (blocks_part r K) P X W) n x w (lists ideal P ∷ []))) end
   claim (lambda t identity) kinds.Lambda (i, (k, u)) =
       where_so (nat_eq i (length identity)) (of_part (numbered parts k) (λ P. claims (on_lambda identity P) (after_lambda g t (identity ++ P ∷ []))))
   claim (phi t identity) kinds.Phi (k, u) =
