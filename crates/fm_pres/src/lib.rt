@@ -1,4 +1,5 @@
-// The table of the parts of a certificate: each part is a matrix that is given or made of earlier parts, and has a number.
+// The table of the parts of a certificate: each part is a matrix that is given or made of earlier parts, and has a number; and the numbers that
+// lines have named for one ideal.
 //
 // What the calls cost:
 // - `new`, `is_part` and `shape` take no memory and no time that depends on the table;
@@ -7,6 +8,7 @@
 //   given is copied then. The calls are nested at most as deep as the part is, and no part is deeper than 1,000.
 #![tactic(auto)]
 
+pub mod block;
 pub(crate) mod evaluating;
 pub mod form;
 pub(crate) mod judging;
@@ -14,7 +16,10 @@ pub(crate) mod node;
 pub mod part_fault;
 pub mod shape;
 pub mod table;
+#[cfg(test)]
+mod tests;
 
+pub use block::Block;
 pub use form::Form;
 pub use part_fault::PartFault;
 pub use shape::Shape;

@@ -1,5 +1,5 @@
 -- What an entry adds to a replay that is kept.
-use Rattle.std.proofs.Common.{ℕ, ◌+◌, ◌*◌, ◌%◌, ◌<◌, ◌^◌, ◌≡◌, nat_eq, ◌==◌, ◌||◌, ◌&&◌, cond, Bool, true, false, List, [], ◌∷◌, ◌++◌, length, Option, Some, None, refl, sym, ap, ap₂, ◌∙◌, subst, arith}
+use Rattle.std.proofs.Common.{ℕ, ◌+◌, ◌*◌, ◌%◌, ◌<◌, ◌^◌, ◌≡◌, ◌≢◌, nat_eq, ◌==◌, ◌||◌, ◌&&◌, cond, Bool, true, false, List, [], ◌∷◌, ◌++◌, length, Option, Some, None, refl, sym, ap, ap₂, ◌∙◌, subst, arith}
 use Rattle.std.proofs.lemmas.Cmp.{nat_eq_equiv}
 use Rattle.std.specs.Cmp.{unsigned_tied}
 use Rattle.std.specs.List.{list_any}
@@ -13,7 +13,7 @@ use Rattle.fm_term.specs.declared.vterm.VTerm.{VTerm}
 use Rattle.fm_term.specs.Falling.{IsMonic, head_of}
 use Rattle.fm_vec.specs.Vectors.{VectorValue, IsVector}
 use Rattle.fm_vec.specs.Multiples.{inverse_of, monic_of}
-use Rattle.fm_complete.specs.Divisions.{terms_of}
+use Rattle.fm_complete.specs.Divisions.{AreMembers, terms_of}
 use Rattle.fm_complete.specs.Standing.{AreOfShape, AreMonicMembers}
 use Rattle.fm_complete.proofs.Cancelling.{inverse_one}
 use Rattle.fm_complete.proofs.Standing.{terms_more}
@@ -41,6 +41,14 @@ shape_more r rows (x ∷ vs) v h a b = (h.0, h.1, shape_more r rows vs v h.2 a b
 monic_more : (vs : List VectorValue) (v : VectorValue) → AreMonicMembers (terms_of vs) → IsMonic v.terms → AreMonicMembers (terms_of (vs ++ v ∷ []))
 monic_more [] v h m = (m, tt)
 monic_more (x ∷ vs) v h m = (h.0, monic_more vs v h.1 m)
+
+not_zero : (ts : List VTerm) → IsMonic ts → ts ≢ []
+not_zero [] m e = m
+not_zero (t ∷ ts) m e = cc
+
+pub members_are : (r : Ring) (rows : ℕ) (vs : List VectorValue) → AreOfShape r rows vs → AreMonicMembers (terms_of vs) → AreMembers r rows vs
+members_are r rows [] a m = tt
+members_are r rows (v ∷ vs) a m = (a.0, a.1, not_zero v.terms m.0, members_are r rows vs a.2 m.1)
 
 length_more : (vs : List VectorValue) (v : VectorValue) → length (vs ++ v ∷ []) ≡ length vs + 1
 length_more [] v = refl

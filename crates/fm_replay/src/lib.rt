@@ -11,6 +11,8 @@ pub mod replay;
 pub mod replaying;
 pub(crate) mod rest;
 pub(crate) mod stepping;
+#[cfg(test)]
+mod tests;
 
 pub use reducing::reduce_by;
 pub use refusal::{Fault, Refusal};

@@ -2,7 +2,7 @@
 ghost use Rattle.std.specs.Prelude.{IfOk, List, None, OnErr, OnOk, length, nat_eq, nat_lt, not, ◌&&◌, ◌<◌, ◌^◌, ◌≡◌};
 ghost use Rattle.fm_term.specs.declared.vterm.VTerm.{VTerm};
 ghost use Rattle.fm_complete.specs.Bases.{entry_value};
-ghost use Rattle.fm_complete.specs.Divisions.{terms_of};
+ghost use Rattle.fm_complete.specs.Divisions.{AreMembers, terms_of};
 ghost use Rattle.fm_complete.specs.Standing.{AreOfShape};
 ghost use Rattle.fm_parts.specs.Replays as definitions;
 ghost use Rattle.fm_replay.specs.Kept.{Adds, DecidesWhole, Enters, Finds, IsNextMember, after_input, after_pair, nothing_kept};
@@ -61,7 +61,7 @@ impl Replay {
 
     pub fn into_members(self) -> Vec<Vector>
         ensures members { result.items ≡ self.members }
-        ensures shape { AreOfShape self.ring self.rows self.members }
+        ensures nonzero { AreMembers self.ring self.rows self.members }
     {
         self.members
     }
