@@ -3,3 +3,4 @@ pub mod Outputs
 pub mod Verdicts
 pub mod Ideals
 pub mod Summaries
+pub mod FirstRank

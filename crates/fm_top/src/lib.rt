@@ -3,6 +3,8 @@
 
 mod call;
 #[cfg(test)]
+mod class_tests;
+#[cfg(test)]
 mod count_tests;
 mod deciding;
 #[cfg(test)]
@@ -23,5 +25,7 @@ mod tests;
 #[cfg(test)]
 mod word_tests;
 mod words;
+#[cfg(test)]
+mod worked_tests;
 
 pub use running::run;
