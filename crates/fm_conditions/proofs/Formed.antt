@@ -1,6 +1,13 @@
 -- The values of parts that are made by the program.
 use Rattle.std.proofs.Common.{◌≡◌, ℕ, zero, suc, ◌*◌, ◌<◌, ◌≤◌, Bool, true, false, nat_eq, nat_lt, [], ◌∷◌, length, map, Result, Ok, Err, refl, sym, ap, ap₂, ◌∙◌, subst, arith}
 use Rattle.std.specs.Prelude.{IfOk}
+use Rattle.std.specs.declared.alloc.Global.{Global}
+use Rattle.std.specs.declared.rc.Rc.{Rc}
+use Rattle.fm_poly.specs.declared.poly_error.PolyError.{PolyError}
+use Rattle.fm_parts.specs.Conditions.{evaluated}
+use Rattle.fm_conditions.specs.declared.why.Refused.{Refused}
+use Rattle.fm_conditions.specs.Reasons.{Judges}
+use Rattle.fm_conditions.proofs.Judgements.{value_view}
 use Rattle.std.proofs.lemmas.Bool.{eqb-true, ltb-true}
 use Rattle.std.proofs.lemmas.Bool.Decides.{nat_tests}
 use Rattle.std.proofs.lemmas.List.{length-map}
@@ -18,7 +25,7 @@ use Rattle.fm_pres.specs.Kept.{IsValue}
 use Rattle.fm_limit.specs.Facts.{diagonal_blocks}
 use Rattle.fm_limit.proofs.MatrixWords.{shape_rows, shape_columns}
 use Rattle.fm_plan.proofs.Answers.{blocks_shape}
-use Rattle.fm_pres.specs.Tables.{TableValue, parts_in}
+use Rattle.fm_pres.specs.Tables.{TableValue, parts_in, part_at}
 use Rattle.fm_pres.proofs.Shapes.{fits_small}
 use Rattle.fm_conditions.specs.declared.operand.Operand.{Operand}
 use Rattle.fm_conditions.specs.Meanings.{operand_part}
@@ -113,3 +120,17 @@ module _ (t u : TableValue) (o q : Operand) (same : u ≡ t) (is : o ≡ q) wher
   bound_moved h =
       subst (λ (x : TableValue). is_within_bound x.ring (operand_part x.ring (parts_in x) q) ≡ false) same
       (subst (λ (x : Operand). is_within_bound u.ring (operand_part u.ring (parts_in u) x) ≡ false) is h)
+
+-- the value of a part of a table that stays as it is
+pub part_moved : (t u : TableValue) → u ≡ t → (k : ℕ) (m n : MatrixValue) → n ≡ m → IsValue u.ring (part_at (parts_in u) k) m → IsValue t.ring (part_at (parts_in t) k) n
+part_moved t u same k m n e v =
+    subst (λ (x : TableValue). IsValue x.ring (part_at (parts_in x) k) n) same (subst (λ (x : MatrixValue). IsValue u.ring (part_at (parts_in u) k) x) (sym e) v)
+
+-- what is judged of an operand in a table that stays as it is
+pub evaluated_moved : (t u : TableValue) → u ≡ t → (a : Operand) (why : Refused) → Judges (value_view u.ring) (Err why) (evaluated u.ring (operand_part u.ring (parts_in u) a))
+    → Judges (value_view t.ring) (Err why) (evaluated t.ring (operand_part t.ring (parts_in t) a))
+evaluated_moved t u same a why h = subst (λ (x : TableValue). Judges (value_view x.ring) (Err why) (evaluated x.ring (operand_part x.ring (parts_in x) a))) same h
+
+-- the value of what was told
+pub told_value : (r : Ring) (A : Part) (o : Result (Rc MatrixValue Global) PolyError) (m : Rc MatrixValue Global) → o ≡ Ok m → IfOk o (λ x. IsValue r A x.value) → IsValue r A m.value
+told_value r A o m e h = subst (λ (y : Result (Rc MatrixValue Global) PolyError). IfOk y (λ (x : Rc MatrixValue Global). IsValue r A x.value)) e h

@@ -1,4 +1,6 @@
 -- Judgements that go step by step.
+use Rattle.std.specs.declared.alloc.Global.{Global}
+use Rattle.std.specs.declared.rc.Rc.{Rc}
 use Rattle.std.proofs.Common.{◌≡◌, Bool, true, false, Some, Result, Ok, Err, refl, sym, ap, ◌∙◌, subst}
 use Rattle.fm_words.specs.Steps.{◌>>=◌, or_fault}
 use Rattle.fm_words.specs.Options.{where_so}
@@ -11,7 +13,15 @@ use Rattle.fm_parts.specs.Replays.{Reason, Exponents, needs}
 use Rattle.fm_parts.specs.Conditions.{evaluated}
 use Rattle.fm_pres.specs.Kept.{IsValue}
 use Rattle.fm_conditions.specs.declared.why.Refused.{Refused}
-use Rattle.fm_conditions.specs.Reasons.{Judges}
+use Rattle.fm_conditions.specs.declared.why.Refused.TheVariants.{Memory, Bad}
+use Rattle.fm_conditions.specs.Reasons.{Judges, reason_of}
+
+-- what is judged: a value, and whether a test is met
+abbrev pub value_view : (r : Ring) → Rc MatrixValue Global → MatrixOf r
+value_view r m = matrix_meaning r m.value
+
+abbrev pub end_view : Unit {0} → Unit {0}
+end_view u = tt
 
 module _ {A B : Type 0} where
   pub goes_on : (x : Result A Reason) (a : A) (f : A → Result B Reason) → x ≡ Ok a → (x >>= f) ≡ f a
@@ -44,3 +54,19 @@ module _ (r : Ring) (a : Part) where
   pub evaluated_not : is_within_bound r a ≡ false → evaluated r a ≡ Err Exponents
   unfolding value_of
   evaluated_not w = ap (λ b. or_fault Exponents (where_so b (Some (part_value r a)))) w
+
+-- ---- steps of a judgement
+
+-- a step that is refused ends it
+pub refused_first : {A B C D : Type 0} (view : A → B) (later : C → D) (why : Refused) (p : Result B Reason) (f : B → Result D Reason) → Judges view (Err why) p → Judges later (Err why) (p >>= f)
+refused_first view later Memory p f h = tt
+refused_first view later (Bad why) p f h = ends_here p (reason_of why) f h
+
+-- after a step that ends well it goes on
+pub judged_next : {B C D : Type 0} (later : C → D) (x : Result C Refused) (p : Result B Reason) (b : B) (f : B → Result D Reason) → p ≡ Ok b → Judges later x (f b) → Judges later x (p >>= f)
+judged_next later x p b f e h = subst (Judges later x) (sym (goes_on p b f e)) h
+
+-- what ends so is judged so of another value
+pub judged_again : {A B C : Type 0} (view : A → B) (later : C → B) (why : Refused) (p : Result B Reason) → Judges view (Err why) p → Judges later (Err why) p
+judged_again view later Memory p h = tt
+judged_again view later (Bad why) p h = h

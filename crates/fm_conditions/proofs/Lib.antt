@@ -1,6 +1,13 @@
+pub mod AboveZeros
 pub mod Comparisons
+pub mod Equalities
+pub mod Exclusions
+pub mod FirstRows
 pub mod Formed
+pub mod Generations
+pub mod Judged
 pub mod Judgements
 pub mod Logs
 pub mod Measures
+pub mod NonzeroEntries
 pub mod SingleEntries

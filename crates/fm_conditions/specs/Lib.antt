@@ -1,3 +1,5 @@
+pub mod Generators
+pub mod Listings
 pub mod Meanings
 pub mod Measures
 pub mod Reasons
