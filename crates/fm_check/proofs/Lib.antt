@@ -1,3 +1,15 @@
 pub mod AllLines
 pub mod WithoutExponents
 pub mod TaskWords
+pub mod PartNumbers
+pub mod LineParts
+pub mod PartLines
+pub mod TableParts
+pub mod Namings
+pub mod Datums
+pub mod NarrowedEntries
+pub mod LogInputs
+pub mod LogLines
+pub mod GivenColumns
+pub mod Grown
+pub mod AskedLogs

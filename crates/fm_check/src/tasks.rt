@@ -12,10 +12,11 @@ ghost use Rattle.fm_run.specs.declared.task.Side.TheVariants as sides;
 ghost use Rattle.fm_lines.specs.Rows.{ending_line};
 ghost use Rattle.fm_check.specs.Ending.{is_spelled, map_names, may_end_line, words_in};
 
+use fm_cert::{is_numbered, task_word};
 use fm_lines::Ending;
 use fm_problem::Query;
 use fm_run::{Name, Side};
-use fm_words::{Mark, first_part, is_number, number};
+use fm_words::{Mark, first_part, is_exact, is_number, number};
 
 /// Whether the query may end so without an answer: in a task of its plan, or refused. An answer is none of these.
 pub fn may_end(query: &Query, ending: &Ending<'_>) -> bool
@@ -191,55 +192,4 @@ fn is_exact_number(word: &[u8]) -> bool
         return false;
     }
     number(word).is_some()
-}
-
-fn is_exact(word: &[u8]) -> bool
-    ensures { result ≡ words.is_exact word.now }
-{
-    match word.split_first() {
-        Some((first, rest)) => rest.is_empty() || *first != b'0',
-        None => false,
-    }
-}
-
-fn task_word(name: Name) -> &'static [u8]
-    ensures { result.now ≡ ends.task_word name }
-{
-    match name {
-        Name::Resolve => b"resolve",
-        Name::Lift => b"lift",
-        Name::Cocycles => b"cocycles",
-        Name::Relations => b"relations",
-        Name::Morphism => b"morphism",
-        Name::Chain => b"chain",
-        Name::Whole => b"whole",
-        Name::Member => b"member",
-        Name::Test => b"test",
-        Name::Coordinates => b"coordinates",
-        Name::Stage => b"stage",
-        Name::Annihilator => b"annihilator",
-        Name::Colon => b"colon",
-        Name::Power => b"power",
-        Name::Contained => b"contained",
-        Name::Lambda => b"lambda",
-        Name::Phi => b"phi",
-        Name::Null => b"null",
-        Name::One => b"one",
-        Name::Onto => b"onto",
-    }
-}
-
-fn is_numbered(name: Name) -> bool
-    ensures { result ≡ ends.is_numbered name }
-{
-    matches!(
-        name,
-        Name::Resolve
-            | Name::Lift
-            | Name::Chain
-            | Name::Stage
-            | Name::Colon
-            | Name::Lambda
-            | Name::Onto
-    )
 }
