@@ -69,6 +69,7 @@ pub fn after_lift(goal: &Goal, j: u64) -> Place
     Place::Cocycles
 }
 
+/// After U, the generating morphism.
 pub fn after_morphism(aim: &Aim) -> Place
     ensures place { (q : ProblemValue) (ps : List Part) → place_of q.ring ps aim.now result ≡ places.after_morphism (aim_of q ps aim.now) }
     ensures there { (ps : List Part) → IsPlace ps result }
@@ -140,6 +141,7 @@ fn before_dying(w: u32, t: u64, moves: u64) -> Place
     Place::Lives { w, t, k: moves - 1 }
 }
 
+/// After the coordinates of a class, which part w gives.
 pub fn after_coordinates(aim: &Aim, w: u32, t: u64) -> Place
     ensures place { (q : ProblemValue) (ps : List Part) → place_of q.ring ps aim.now result ≡ places.after_coordinates (aim_of q ps aim.now) (part_at ps w) t }
     ensures there { (ps : List Part) → is_number ps w ≡ true → IsPlace ps result }
