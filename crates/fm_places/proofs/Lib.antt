@@ -1,1 +1,1 @@
-mod Aims
+pub mod Aims

@@ -1,0 +1,17 @@
+pub mod Numbering
+pub mod Rows
+pub mod Followed
+pub mod Placed
+pub mod Shown
+pub mod Units
+pub mod Lives
+pub mod Resolved
+pub mod Asked
+pub mod FurtherAims
+pub mod FurtherRows
+pub mod FurtherFollowed
+pub mod FurtherPlaces
+pub mod FurtherPlaced
+pub mod FurtherShown
+pub mod FormedPowers
+pub mod FurtherLifts

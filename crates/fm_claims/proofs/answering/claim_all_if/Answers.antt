@@ -1,0 +1,10 @@
+use Rattle.fm_claims.proofs.FurtherFollowed.{claim_found_all, claims_missing}
+use Rattle.fm_places.specs.Meanings.{place_of}
+use Rattle.fm_claims.proofs.answering.claim_all_if.Goals as goal
+
+pub returns-in_default : goal.returns-in_default
+returns-in_default c = λ r ps ls aim claimed f there. claims_missing r ps ls aim claimed c.args.conditions (place_of r ps aim c.args.next) f c.in_default.is
+
+pub returns : goal.returns
+returns c = λ r ps ls aim claimed f there.
+    claim_found_all r ps ls aim claimed c.args.conditions c.in-Some.conditions c.args.next c.claim_all.result f c.in-Some.is (λ t k. c.claim_all.ensures r ps ls aim t k there)

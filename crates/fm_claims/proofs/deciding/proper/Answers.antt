@@ -1,0 +1,48 @@
+use Rattle.std.proofs.Common.{◌≡◌, suc, ◌≤◌, true, [], ◌∷◌, Some, None, refl, sym, ap, ◌∙◌}
+use Rattle.fm_report.specs.Sheets.{numbered}
+use Rattle.fm_parts.specs.Conditions.{outside}
+use Rattle.fm_parts.specs.Shapes.{rows_of}
+use Rattle.fm_parts.specs.Replays.{is_number}
+use Rattle.fm_judge.specs.Claims.{excluded, unit_part}
+use Rattle.fm_judge.specs.Places as places
+use Rattle.fm_pres.specs.Tables.{parts_in, part_at}
+use Rattle.fm_pres.specs.Blocks.{block_of}
+use Rattle.fm_conditions.specs.Meanings.{logs_of, log_at}
+use Rattle.fm_lines.specs.declared.row.Row.TheVariants as rows
+use Rattle.fm_places.specs.declared.place.Place.TheVariants as program
+use Rattle.fm_places.specs.Meanings.{goal_of}
+use Rattle.fm_claims.proofs.Followed.{numbered_in, numbers_in, unnamed, claimed}
+use Rattle.fm_claims.proofs.Placed as placed
+use Rattle.fm_claims.proofs.Rows as others
+use Rattle.fm_claims.proofs.Followed.{excluded_in}
+use Rattle.fm_claims.proofs.Units.{unit_columns}
+use Rattle.fm_claims.proofs.deciding.proper.Goals as goal
+
+pub returns-in_default : goal.returns-in_default
+returns-in_default c = λ q g.
+    let ls = c.args.logs.now in let ps = parts_in c.args.table.now in let b = c.args.block.now in let r = q.ring in let G = goal_of q ps g in let B = block_of ps b in let L = logs_of ps ls in
+    record { claim = others.not_proper r G B ps L c.args.t c.args.row.now c.in_default.not-Proper; sound = tt }
+
+pub returns-in_default-nth : goal.returns-in_default-nth
+returns-in_default-nth c = λ q g.
+    let ls = c.args.logs.now in let ps = parts_in c.args.table.now in let b = c.args.block.now in let r = q.ring in let G = goal_of q ps g in let B = block_of ps b in let L = logs_of ps ls in
+    let e : numbered B.kernels (suc c.args.t) ≡ None = numbered_in ps _ _ (suc c.args.t) None c.deref.ensures.value (c.in_default-nth.ensures.part ps) in
+    unnamed q ps ls g b (program.Proper c.args.t) c.args.row.now (rows.Proper c.in-Proper.shown) c.in-Proper.is (placed.proper_says r G B ps L c.args.t c.in-Proper.shown) places.end (placed.on_proper r G B ps L c.args.t c.in-Proper.shown) (rw e refl)
+
+pub returns-in_default-2 : goal.returns-in_default-2
+returns-in_default-2 c = λ q g.
+    let ls = c.args.logs.now in let ps = parts_in c.args.table.now in let b = c.args.block.now in let r = q.ring in let G = goal_of q ps g in let B = block_of ps b in let L = logs_of ps ls in
+    let e_k : numbered B.kernels (suc c.args.t) ≡ Some (part_at ps c.in-Some.k) = numbered_in ps _ _ (suc c.args.t) (Some (part_at ps c.in-Some.k)) c.deref.ensures.value (c.in-Some.ensures.part ps) in
+    let e : excluded r G B ps L 0 (part_at ps c.in-Some.k) (unit_part r (rows_of (part_at ps c.in-Some.k))) c.in-Proper.shown.log c.in-Proper.shown.column c.in-Proper.shown.by.items ≡ None = excluded_in r G B ps L 0 (part_at ps c.in-Some.k) (unit_part r (rows_of (part_at ps c.in-Some.k))) c.in-Proper.shown.log c.in-Proper.shown.column _ _ None c.deref-2.ensures.value (rw c.in_default-2.is at (c.in_ok-x.ensures.excluded ps r G B 0 (part_at ps c.in-Some.k) (unit_part r (rows_of (part_at ps c.in-Some.k))) (unit_columns r (rows_of (part_at ps c.in-Some.k)) ∙ sym c.rows-count.ensures))) in
+    unnamed q ps ls g b (program.Proper c.args.t) c.args.row.now (rows.Proper c.in-Proper.shown) c.in-Proper.is (placed.proper_says r G B ps L c.args.t c.in-Proper.shown) places.end (placed.on_proper r G B ps L c.args.t c.in-Proper.shown) (rw e_k e)
+
+pub returns : goal.returns
+returns c = λ q g.
+    let ls = c.args.logs.now in let ps = parts_in c.args.table.now in let b = c.args.block.now in let r = q.ring in let G = goal_of q ps g in let B = block_of ps b in let L = logs_of ps ls in
+    let e_k : numbered B.kernels (suc c.args.t) ≡ Some (part_at ps c.in-Some.k) = numbered_in ps _ _ (suc c.args.t) (Some (part_at ps c.in-Some.k)) c.deref.ensures.value (c.in-Some.ensures.part ps) in
+    let n_k : is_number ps c.in-Some.k ≡ true = c.in-Some.ensures.there ps (numbers_in ps _ _ c.deref.ensures.value c.requires.block.3) in
+    let e : excluded r G B ps L 0 (part_at ps c.in-Some.k) (unit_part r (rows_of (part_at ps c.in-Some.k))) c.in-Proper.shown.log c.in-Proper.shown.column c.in-Proper.shown.by.items ≡ Some (outside (log_at L c.in-Some-2.x.log) 0 (part_at ps c.in-Some.k) (unit_part r (rows_of (part_at ps c.in-Some.k))) c.in-Some-2.x.column c.in-Some-2.x.by.items ∷ []) = excluded_in r G B ps L 0 (part_at ps c.in-Some.k) (unit_part r (rows_of (part_at ps c.in-Some.k))) c.in-Proper.shown.log c.in-Proper.shown.column _ _ (Some (outside (log_at L c.in-Some-2.x.log) 0 (part_at ps c.in-Some.k) (unit_part r (rows_of (part_at ps c.in-Some.k))) c.in-Some-2.x.column c.in-Some-2.x.by.items ∷ [])) c.deref-2.ensures.value (rw c.in-Some-2.is at (c.in_ok-x.ensures.excluded ps r G B 0 (part_at ps c.in-Some.k) (unit_part r (rows_of (part_at ps c.in-Some.k))) (unit_columns r (rows_of (part_at ps c.in-Some.k)) ∙ sym c.rows-count.ensures))) in
+    let t : (is_number ls c.in-Some-2.x.log ≡ true) × (1 ≤ c.in-Some-2.x.column) = rw c.in-Some-2.is at c.in_ok-x.ensures.there in
+    claimed q ps ls g b (program.Proper c.args.t) c.args.row.now (rows.Proper c.in-Proper.shown) c.in-Proper.is (placed.proper_says r G B ps L c.args.t c.in-Proper.shown) places.end (placed.on_proper r G B ps L c.args.t c.in-Proper.shown) c.claim_one.result _ program.End
+    (c.claim_one.ensures r ps ls g.aim (t.0, n_k, tt, t.1) (tt, tt) tt)
+    (rw e_k (e ∙ ap (λ n. Some (outside (log_at L c.in-Some-2.x.log) 0 (part_at ps c.in-Some.k) (unit_part r n) c.in-Some-2.x.column c.in-Some-2.x.by.items ∷ [])) (sym c.rows-count.ensures))) (refl)

@@ -1,0 +1,11 @@
+use Rattle.std.proofs.Common.{suc, List, ap}
+use Rattle.fm_report.specs.Parts.{Part}
+use Rattle.fm_report.specs.Sheets.{numbered}
+use Rattle.fm_claims.proofs.FurtherAims.{no_differentials}
+use Rattle.fm_claims.proofs.source.source_differential.Goals as goal
+
+pub returns-in_default : goal.returns-in_default
+returns-in_default c = record {
+  part = λ q ps. ap (λ (xs : List Part). numbered xs (suc c.args.i)) (no_differentials q ps c.args.aim.now c.in_default.not-Incoming);
+  there = λ q ps a. tt;
+}

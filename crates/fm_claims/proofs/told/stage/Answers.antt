@@ -1,0 +1,6 @@
+use Rattle.std.proofs.Common.{sym}
+use Rattle.fm_places.proofs.Aims as aims
+use Rattle.fm_claims.proofs.told.stage.Goals as goal
+
+pub returns-in_default : goal.returns-in_default
+returns-in_default c = λ q ps. sym (aims.stage_other q ps c.args.aim.now c.in_default.not-Dying c.in_default.not-Living)
