@@ -1,0 +1,5 @@
+pub mod Standings
+pub mod Reports
+pub mod Heads
+pub mod Lines
+pub mod Counted
