@@ -4,3 +4,4 @@ pub mod Verdicts
 pub mod Ideals
 pub mod Summaries
 pub mod FirstRank
+pub mod Certified

@@ -2,14 +2,16 @@
 use Rattle.std.specs.Prelude.{ℕ, List, [], ◌∷◌, ◌++◌, ◌≡◌, length, Option, Some, None, Result, Ok, Err, codes, decimal, nat_eq, nat_lt, if◌then◌else◌}
 use Rattle.std.specs.Option.{option_map}
 use Rattle.fm_base.specs.declared.status.Status.{Status}
-use Rattle.fm_base.specs.declared.status.Status.TheVariants.{Done, Usage, Unanswered, Problem, TooLong}
+use Rattle.fm_base.specs.declared.status.Status.TheVariants.{Done, Refused, Usage, Unanswered, Problem, TooLong}
 use Rattle.fm_problem.specs.declared.problem.Problem as problems
 use Rattle.fm_problem.specs.Faults.{Fault, fault_text}
 use Rattle.fm_problem.specs.Problems.{problem_of}
 use Rattle.fm_report.specs.Holding.{VerdictsHold}
+use Rattle.fm_parts.specs.Replays.{Reason, Truncated, Form, Exponents, Reference, Shape, Depth, Value, BadEntry, BadLog, Reduction}
+use Rattle.fm_judge.specs.Judging.{Counts as JudgedCounts, BadLine, judgement}
 use Rattle.fm_answers.specs.Answers.{are_answered, query_reports, report_bytes}
 use Rattle.fm_top.specs.declared.call.Call.{Call}
-use Rattle.fm_top.specs.declared.call.Call.TheVariants.{Decide, Sample}
+use Rattle.fm_top.specs.declared.call.Call.TheVariants.{Decide, Check, Sample}
 use Rattle.fm_decide.specs.Counts.{counts_of}
 use Rattle.fm_decide.specs.declared.counts.Counts.{Counts}
 use Rattle.fm_sample.specs.Samples.{sample_problem}
@@ -20,9 +22,12 @@ pub record Output : Type 0 where
   pub status : Status
   pub bytes : List ℕ
 
--- the longest problem text, in bytes
+-- the longest problem text and the longest certificate, in bytes
 abbrev pub problem_limit : ℕ
 problem_limit = 1048576
+
+abbrev pub certificate_limit : ℕ
+certificate_limit = 268435456
 
 -- a line with its end
 abbrev pub line_of : List ℕ → List ℕ
@@ -47,6 +52,35 @@ judged units (Err f) = faulted f
 unfoldable pub decided : ℕ → List ℕ → Output
 decided units text = judged units (problem_of text)
 
+-- the line of a certificate that is accepted: how many queries have an answer, and how many have none
+abbrev pub accepted_line : (verdicts passed : ℕ) → List ℕ
+accepted_line verdicts passed = codes "accepted verdicts " ++ (decimal verdicts ++ (codes " passed " ++ line_of (decimal passed)))
+
+-- the word for what is wrong with a line
+abbrev pub reason_text : Reason → List ℕ
+reason_text Truncated = codes "truncated"
+reason_text Form = codes "form"
+reason_text Exponents = codes "exponents"
+reason_text Reference = codes "reference"
+reason_text Shape = codes "shape"
+reason_text Depth = codes "depth"
+reason_text Value = codes "value"
+reason_text BadEntry = codes "entry"
+reason_text BadLog = codes "log"
+reason_text Reduction = codes "reduction"
+
+-- the line of a certificate that is refused: its first bad line
+abbrev pub refused_line : ℕ → Reason → List ℕ
+refused_line n why = codes "refused line " ++ (decimal n ++ (codes " " ++ line_of (reason_text why)))
+
+abbrev pub found : Result JudgedCounts BadLine → Output
+found (Ok c) = record { status = Done; bytes = accepted_line c.verdicts c.passed }
+found (Err b) = record { status = Refused; bytes = refused_line b.line b.why }
+
+-- what a text within the limit gives as a certificate
+unfoldable pub checked : List ℕ → Output
+checked text = found (judgement text)
+
 -- the line that counts how the queries of a sample end
 abbrev pub summary_line : (number queries : ℕ) → Counts → List ℕ
 summary_line number queries c =
@@ -61,12 +95,37 @@ summed number q c =
 unfoldable pub sampled : ℕ → Output
 sampled number = let q = sample_problem number in summed number q (counts_of (query_reports default_budget q q.queries))
 
+-- the longest text that a call lets be read, in bytes
+abbrev pub limit_of : Option Call → ℕ
+limit_of None = 0
+limit_of (Some (Decide units)) = problem_limit
+limit_of (Some Check) = certificate_limit
+limit_of (Some (Sample number)) = 0
+
+-- the longest text that words let be read
+abbrev pub text_limit : List (List ℕ) → ℕ
+text_limit words = limit_of (call_of words)
+
+-- what a call gives on a text within its limit
+abbrev pub answered : Call → List ℕ → Output
+answered (Decide units) text = decided units text
+answered Check text = checked text
+answered (Sample number) text = sampled number
+
+-- an input longer than the limit
+abbrev pub too_long : Output
+too_long = record { status = TooLong; bytes = [] }
+
+-- what a call gives on a text that it reads
+abbrev pub answered_within : Call → List ℕ → Output
+answered_within call text = if nat_lt (limit_of (Some call)) (length text) then too_long else answered call text
+
 -- what a call gives on a text
 abbrev pub output_within : Option Call → List ℕ → Output
 output_within None text = usage
 output_within (Some (Sample number)) text = sampled number
-output_within (Some (Decide units)) text =
-    if nat_lt problem_limit (length text) then record { status = TooLong; bytes = [] } else decided units text
+output_within (Some (Decide units)) text = answered_within (Decide units) text
+output_within (Some Check) text = answered_within Check text
 
 -- the output of words and a text
 unfoldable pub output_of : List (List ℕ) → List ℕ → Output
@@ -75,7 +134,8 @@ output_of words text = output_within (call_of words) text
 abbrev pub determined_within : Option Call → Option (List ℕ) → Option Output
 determined_within None told = Some usage
 determined_within (Some (Sample number)) told = Some (sampled number)
-determined_within (Some (Decide units)) told = option_map (output_within (Some (Decide units))) told
+determined_within (Some (Decide units)) told = option_map (answered_within (Decide units)) told
+determined_within (Some Check) told = option_map (answered_within Check) told
 
 -- the output where it is determined: the words need no text, or the text is told
 unfoldable pub determined_output : List (List ℕ) → Option (List ℕ) → Option Output

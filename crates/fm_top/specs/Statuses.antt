@@ -1,6 +1,8 @@
 -- Kinds of statuses.
 use Rattle.fm_base.specs.declared.status.Status.{Status}
 use Rattle.fm_base.specs.declared.status.Status.TheVariants.{Done, Refused, Usage, Unanswered, Problem, ReadFault, WriteFault, Memory, TooLong}
+use Rattle.fm_top.specs.declared.call.Call.{Call}
+use Rattle.fm_top.specs.declared.call.Call.TheVariants.{Decide, Check, Sample}
 
 -- no fault of the source or the sink, and no want of memory
 abbrev pub IsPlain : Status → Type 0
@@ -49,3 +51,21 @@ IsOfText ReadFault = ⊥
 IsOfText WriteFault = ⊥
 IsOfText Memory = ⊥
 IsOfText TooLong = ⊥
+
+-- how a run ends that checked a text and wrote what it found
+abbrev pub IsOfCertificate : Status → Type 0
+IsOfCertificate Done = Unit {0}
+IsOfCertificate Refused = Unit {0}
+IsOfCertificate Usage = ⊥
+IsOfCertificate Unanswered = ⊥
+IsOfCertificate Problem = ⊥
+IsOfCertificate ReadFault = ⊥
+IsOfCertificate WriteFault = ⊥
+IsOfCertificate Memory = ⊥
+IsOfCertificate TooLong = ⊥
+
+-- how a run ends that wrote the whole answer of a call
+abbrev pub IsOfCall : Call → Status → Type 0
+IsOfCall (Decide units) status = IsOfText status
+IsOfCall Check status = IsOfCertificate status
+IsOfCall (Sample number) status = IsOfText status

@@ -8,7 +8,7 @@ use Rattle.clap.specs.declared.parser.matches.ArgMatches.{ArgMatches}
 use Rattle.fm_words.specs.Parts.{Bytes}
 use Rattle.fm_words.specs.Words.{is_empty, is_number, same_bytes, small, value}
 use Rattle.fm_top.specs.declared.call.Call.{Call}
-use Rattle.fm_top.specs.declared.call.Call.TheVariants.{Decide, Sample}
+use Rattle.fm_top.specs.declared.call.Call.TheVariants.{Decide, Check, Sample}
 
 -- ---- the command that takes the words
 
@@ -70,6 +70,12 @@ deciding None None = Some (Decide default_budget)
 deciding None (Some digits) = option_map Decide (budget_in digits)
 deciding (Some n) budget = None
 
+-- `check` takes no number and no budget
+abbrev pub checking : (number budget : Option Bytes) → Option Call
+checking None None = Some Check
+checking None (Some digits) = None
+checking (Some n) budget = None
+
 -- `sample` takes a number and no budget
 abbrev pub sampling : (number budget : Option Bytes) → Option Call
 sampling None budget = None
@@ -80,7 +86,8 @@ abbrev pub call_named : (command number budget : Option Bytes) → Option Call
 call_named None number budget = None
 call_named (Some command) number budget =
     if same_bytes command (codes "decide") then deciding number budget
-    else (if same_bytes command (codes "sample") then sampling number budget else None)
+    else (if same_bytes command (codes "check") then checking number budget
+    else (if same_bytes command (codes "sample") then sampling number budget else None))
 
 -- the call by the values of the arguments
 abbrev pub call_in : List Row → Option Call
@@ -103,14 +110,27 @@ IsParseOf words (Some m) = (is_taken words ≡ true) × (rows_of (found_of m) �
 unfoldable pub call_of : List Bytes → Option Call
 call_of words = if is_taken words then call_in (matches words) else None
 
-abbrev pub is_decide : Option Call → Bool
-is_decide None = false
-is_decide (Some (Decide units)) = true
-is_decide (Some (Sample number)) = false
+-- a call for a check of a certificate
+abbrev pub checks : Option Call → Bool
+checks None = false
+checks (Some (Decide units)) = false
+checks (Some Check) = true
+checks (Some (Sample number)) = false
 
--- a problem is read
-abbrev pub reads_problem : List Bytes → Bool
-reads_problem words = is_decide (call_of words)
+-- a call on a text
+abbrev pub reads : Option Call → Bool
+reads None = false
+reads (Some (Decide units)) = true
+reads (Some Check) = true
+reads (Some (Sample number)) = false
+
+-- the words ask for a check of a certificate
+abbrev pub is_check : List Bytes → Bool
+is_check words = checks (call_of words)
+
+-- a text is read: a problem or a certificate
+abbrev pub reads_text : List Bytes → Bool
+reads_text words = reads (call_of words)
 
 -- the words have the form of a call
 abbrev pub is_call : List Bytes → Bool

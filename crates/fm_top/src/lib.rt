@@ -1,7 +1,11 @@
 // The top call: words, a source and a sink in, a status out. Everything that the program promises stands on its contract.
 #![tactic(auto)]
 
+mod answering;
 mod call;
+mod certifying;
+#[cfg(test)]
+mod check_tests;
 #[cfg(test)]
 mod class_tests;
 #[cfg(test)]

@@ -7,11 +7,11 @@ use std::test::Fail;
 // The words, and the call, if they have the form of one.
 type Row = (&'static [&'static str], Option<Call>);
 
-const ROWS: [Row; 70] = [
+const ROWS: [Row; 82] = [
     (&["decide"], Some(Call::Decide(200_000))),
     (&[], None),
     (&[""], None),
-    (&["check"], None),
+    (&["check"], Some(Call::Check)),
     (&["Decide"], None),
     (&["decid"], None),
     (&["decide", ""], None),
@@ -81,6 +81,18 @@ const ROWS: [Row; 70] = [
     (&["7", "sample"], None),
     (&["check", "7"], None),
     (&["check", "--budget", "5"], None),
+    (&["--budget=5", "check"], None),
+    (&["check", "--budget"], None),
+    (&["check", "--"], Some(Call::Check)),
+    (&["--", "check"], Some(Call::Check)),
+    (&["--", "check", "--budget"], None),
+    (&["check", "--", "7"], None),
+    (&["check", "check"], None),
+    (&["check", ""], None),
+    (&["check", "-"], None),
+    (&["check", "--help"], None),
+    (&["Check"], None),
+    (&["checks"], None),
 ];
 
 fn owned(alloc: Global, words: &[&str]) -> Result<Vec<String>, AllocError> {

@@ -1,7 +1,7 @@
 // The words of the command line.
 ghost use Rattle.std.specs.Prelude.{◌≡◌, IfOk, map, option_map, string_bytes};
 ghost use Rattle.clap.specs.Words.{app_of};
-ghost use Rattle.fm_top.specs.Words.{IsParseOf, budget_in, call_named, call_of, command_line, deciding, number_in, sample_in, sampling};
+ghost use Rattle.fm_top.specs.Words.{IsParseOf, budget_in, call_named, call_of, checking, command_line, deciding, number_in, sample_in, sampling};
 
 use crate::call::Call;
 use clap::error::ErrorKind;
@@ -68,6 +68,7 @@ fn named_call(command: Option<&str>, number: Option<&str>, budget: Option<&str>)
 {
     match command? {
         "decide" => decide_call(number, budget),
+        "check" => check_call(number, budget),
         "sample" => sample_call(number, budget),
         _ => None,
     }
@@ -80,6 +81,15 @@ fn decide_call(number: Option<&str>, budget: Option<&str>) -> Option<Call>
         (None, None) => Some(Call::Decide(DEFAULT_BUDGET)),
         (None, Some(word)) => Some(Call::Decide(named_budget(word)?)),
         (Some(_), _) => None,
+    }
+}
+
+fn check_call(number: Option<&str>, budget: Option<&str>) -> Option<Call>
+    ensures { result ≡ checking (option_map (λ s. s.now) number.entry) (option_map (λ s. s.now) budget.entry) }
+{
+    match (number, budget) {
+        (None, None) => Some(Call::Check),
+        _ => None,
     }
 }
 
