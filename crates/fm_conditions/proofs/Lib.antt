@@ -1,5 +1,6 @@
 pub mod AboveZeros
 pub mod Comparisons
+pub mod ConstantPowers
 pub mod Equalities
 pub mod Exclusions
 pub mod FirstRows

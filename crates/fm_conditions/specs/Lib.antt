@@ -1,3 +1,4 @@
+pub mod Constants
 pub mod Generators
 pub mod Listings
 pub mod Meanings

@@ -1,13 +1,17 @@
 // Powers of polynomials, in factors.
-ghost use Rattle.std.specs.Prelude.{IfOk, IsErrOf, List, Some, [], false, length, slice_get, suc, true, ◌∷◌, ◌≡◌, ◌≤◌, ℕ};
+ghost use Rattle.std.specs.Prelude.{IfOk, IsErrOf, List, Some, [], false, length, slice_get, suc, true, ◌<◌, ◌∷◌, ◌≡◌, ◌≤◌, ℕ};
+ghost use Rattle.fm_conditions.specs.Constants as constants;
+ghost use Rattle.fm_gfp.specs.Primes.{prime_value};
 ghost use Rattle.fm_judge.specs.Claims.{factored_part, power_part};
 ghost use Rattle.fm_parts.specs.Values.{is_within_bound};
-ghost use Rattle.fm_poly.specs.Polys.{PolyValue};
+ghost use Rattle.fm_mat.specs.Matrices.{MatrixValue};
+ghost use Rattle.fm_poly.specs.Polys.{IsCanonical, PolyValue};
 ghost use Rattle.fm_poly.specs.declared.ring.Ring.{Ring as RingValue};
 ghost use Rattle.fm_pres.specs.Kept.{IsValue};
 ghost use Rattle.fm_report.specs.Parts.{given};
 
 use crate::forming::shared;
+use fm_gfp::Prime;
 use fm_mat::{Column, Matrix};
 use fm_poly::{Poly, PolyError};
 use fm_support::scalars::scalar;
@@ -27,8 +31,56 @@ pub(crate) fn power(alloc: Global, f: &Poly, k: u64, rows: u32) -> Result<Rc<Mat
     shared(alloc, power)
 }
 
-/// f^k as a matrix with one entry, by k products.
+/// f^k as a matrix with one entry, by k products; if f is a constant, by fewer than p.
 pub(crate) fn factored(alloc: Global, f: &Poly, k: u64) -> Result<Matrix, PolyError>
+    requires some { 1 ≤ f.now.ring.vars }
+    requires few { f.now.ring.vars ≤ 8 }
+    ensures value { IfOk result (λ m. IsValue f.now.ring (factored_part f.now.ring f.now k) m) }
+    ensures rows { IfOk result (λ m. m.rows ≡ 1) }
+    ensures columns { IfOk result (λ m. length m.columns ≡ 1) }
+    ensures exponent { IsErrOf result PolyError.Exponent → is_within_bound f.now.ring (factored_part f.now.ring f.now k) ≡ false }
+{
+    let product = multiplied(alloc, f, factor_count(f, k))?;
+    Ok(product)
+}
+
+// How many factors give f^k. The powers of a constant repeat, so that fewer than p do.
+fn factor_count(f: &Poly, k: u64) -> u64
+    ensures within { result ≤ k }
+    ensures few { constants.is_constant f.now.terms ≡ true → result < prime_value f.now.ring.prime }
+    ensures value { (m : MatrixValue) → IsValue f.now.ring (factored_part f.now.ring f.now result) m → IsValue f.now.ring (factored_part f.now.ring f.now k) m }
+{
+    if !is_constant(f) {
+        return k;
+    }
+    least_exponent(f.ring().prime, k)
+}
+
+// Whether f has no term, or one whose monomial is 1.
+fn is_constant(f: &Poly) -> bool
+    ensures exact { result ≡ constants.is_constant f.now.terms }
+    ensures canonical { IsCanonical f.now.ring f.now.terms }
+{
+    let Some((first, later)) = f.terms().split_first() else {
+        return true;
+    };
+    later.is_empty() && first.mono.degree() == 0
+}
+
+// The least exponent with the same power of each constant: from 1 on they repeat after p - 1.
+fn least_exponent(prime: Prime, k: u64) -> u64
+    ensures exact { result ≡ constants.least_exponent prime k }
+    ensures within { result ≤ k }
+    ensures few { result < prime_value prime }
+{
+    if k == 0 {
+        return 0;
+    }
+    1 + (k - 1) % (u64::from(prime.value()) - 1)
+}
+
+// f^k as a matrix with one entry, by k products.
+fn multiplied(alloc: Global, f: &Poly, k: u64) -> Result<Matrix, PolyError>
     requires some { 1 ≤ f.now.ring.vars }
     requires few { f.now.ring.vars ≤ 8 }
     ensures value { IfOk result (λ m. IsValue f.now.ring (factored_part f.now.ring f.now k) m) }

@@ -133,8 +133,23 @@ fn same(a: &Matrix, b: &Matrix) -> bool {
     true
 }
 
-fn times(alloc: Global, prime: Prime, a: Given, b: Given) -> Result<Matrix, PolyError> {
-    let ring = plane(prime);
+// What is made of matrices.
+#[derive(Copy, Clone)]
+enum Op<'a> {
+    Times(Given<'a, 'a, 'a>, Given<'a, 'a, 'a>),
+    Twist(Given<'a, 'a, 'a>, u8),
+    Flip(Given<'a, 'a, 'a>),
+    Beside(Given<'a, 'a, 'a>, Given<'a, 'a, 'a>),
+    Stack(Given<'a, 'a, 'a>, Given<'a, 'a, 'a>),
+    // columns 3, 1 and 1
+    Pick(Given<'a, 'a, 'a>),
+    PickNone(Given<'a, 'a, 'a>),
+    Unit(u32),
+}
+
+fn times(alloc: Global, ring: Ring, a: Given, b: Given) -> Result<Matrix, PolyError>
+    requires { ring.vars ≡ 2 }
+{
     let a = matrix(alloc, ring, a)?;
     let b = matrix(alloc, ring, b)?;
     if b.rows() != a.cols() {
@@ -143,396 +158,277 @@ fn times(alloc: Global, prime: Prime, a: Given, b: Given) -> Result<Matrix, Poly
     a.times(alloc, &b)
 }
 
-fn twist(alloc: Global, prime: Prime, a: Given, e: u8) -> Result<Matrix, PolyError> {
-    let a = matrix(alloc, plane(prime), a)?;
+fn twist(alloc: Global, ring: Ring, a: Given, e: u8) -> Result<Matrix, PolyError>
+    requires { ring.vars ≡ 2 }
+{
+    let a = matrix(alloc, ring, a)?;
     a.twist(alloc, e)
 }
 
-fn times_is(
-    alloc: Global,
-    prime: Prime,
-    a: Given,
-    b: Given,
-    want: Given,
-) -> Result<bool, PolyError> {
-    let product = times(alloc, prime, a, b)?;
-    Ok(same(&product, &matrix(alloc, plane(prime), want)?))
+fn flip(alloc: Global, ring: Ring, a: Given) -> Result<Matrix, AllocError>
+    requires { ring.vars ≡ 2 }
+{
+    let a = matrix(alloc, ring, a)?;
+    a.flip(alloc)
 }
 
-fn twist_is(alloc: Global, prime: Prime, a: Given, e: u8, want: Given) -> Result<bool, PolyError> {
-    let twisted = twist(alloc, prime, a, e)?;
-    Ok(same(&twisted, &matrix(alloc, plane(prime), want)?))
-}
-
-fn flip_is(alloc: Global, prime: Prime, a: Given, want: Given) -> Result<bool, AllocError> {
-    let a = matrix(alloc, plane(prime), a)?;
-    let flipped = a.flip(alloc)?;
-    Ok(same(&flipped, &matrix(alloc, plane(prime), want)?))
-}
-
-fn beside_is(
-    alloc: Global,
-    prime: Prime,
-    a: Given,
-    b: Given,
-    want: Given,
-) -> Result<bool, AllocError> {
-    let ring = plane(prime);
+fn beside(alloc: Global, ring: Ring, a: Given, b: Given) -> Result<Matrix, AllocError>
+    requires { ring.vars ≡ 2 }
+{
     let a = matrix(alloc, ring, a)?;
     let b = matrix(alloc, ring, b)?;
     if b.rows() != a.rows() {
-        return Ok(false);
+        return Err(AllocError);
     }
-    let joined = a.beside(alloc, &b)?;
-    Ok(same(&joined, &matrix(alloc, plane(prime), want)?))
+    a.beside(alloc, &b)
 }
 
-fn stack_is(
-    alloc: Global,
-    prime: Prime,
-    a: Given,
-    b: Given,
-    want: Given,
-) -> Result<bool, AllocError> {
-    let ring = plane(prime);
+fn stack(alloc: Global, ring: Ring, a: Given, b: Given) -> Result<Matrix, AllocError>
+    requires { ring.vars ≡ 2 }
+{
     let a = matrix(alloc, ring, a)?;
     let b = matrix(alloc, ring, b)?;
     if b.cols() != a.cols() || a.rows() > 9 || b.rows() > 9 {
-        return Ok(false);
+        return Err(AllocError);
     }
-    let stacked = a.stack(alloc, &b)?;
-    Ok(same(&stacked, &matrix(alloc, plane(prime), want)?))
+    a.stack(alloc, &b)
 }
 
-fn unit_is(alloc: Global, prime: Prime, n: u32, want: Given) -> Result<bool, AllocError> {
-    let unit = Matrix::unit(alloc, plane(prime), n)?;
-    let same_copy = same(&unit, &unit.copy(alloc)?);
-    Ok(same_copy && same(&unit, &matrix(alloc, plane(prime), want)?))
+fn pick(alloc: Global, ring: Ring, a: Given) -> Result<Matrix, AllocError>
+    requires { ring.vars ≡ 2 }
+{
+    let a = matrix(alloc, ring, a)?;
+    if a.cols() != 3 {
+        return Err(AllocError);
+    }
+    a.pick(alloc, &[3, 1, 1])
 }
 
-#[test]
-fn products(rt: HostRuntime) -> Result<(), Fail> {
-    let alloc = rt.alloc();
-    let x: &[Listed] = &[([1, 0], 1)];
-    let y: &[Listed] = &[([0, 1], 1)];
-    let xy: &[Listed] = &[([1, 1], 1)];
-    let x_plus_y: &[Listed] = &[([1, 0], 1), ([0, 1], 1)];
-    let squares: &[Listed] = &[([2, 0], 1), ([0, 2], 1)];
-    assert!(rt;
-        times_is(
-            alloc,
-            Prime::Two,
-            (1, &[&[x], &[y]]),
-            (2, &[&[x, y]]),
-            (1, &[&[squares]])
-        )?
-    );
-    assert!(rt;
-        times_is(
-            alloc,
-            Prime::Two,
-            (1, &[&[x_plus_y]]),
-            (1, &[&[x_plus_y]]),
-            (1, &[&[squares]])
-        )?
-    );
-    Ok(())
+fn pick_none(alloc: Global, ring: Ring, a: Given) -> Result<Matrix, AllocError>
+    requires { ring.vars ≡ 2 }
+{
+    let a = matrix(alloc, ring, a)?;
+    a.pick(alloc, &[])
 }
 
-#[test]
-fn products_of_two_rows(rt: HostRuntime) -> Result<(), Fail> {
-    let alloc = rt.alloc();
-    let x: &[Listed] = &[([1, 0], 1)];
-    let y: &[Listed] = &[([0, 1], 1)];
-    let xy: &[Listed] = &[([1, 1], 1)];
-    let one: &[Listed] = &[([0, 0], 1)];
-    let two: &[Listed] = &[([0, 0], 2)];
-    let zero: &[Listed] = &[];
-    let twice_x: &[Listed] = &[([1, 0], 2)];
-    let twice_y: &[Listed] = &[([0, 1], 2)];
-    let xy_plus_two: &[Listed] = &[([1, 1], 1), ([0, 0], 2)];
-    assert!(rt;
-        times_is(
-            alloc,
-            Prime::Three,
-            (2, &[&[one, y], &[x, two]]),
-            (2, &[&[x, one], &[zero, y]]),
-            (2, &[&[twice_x, xy_plus_two], &[xy, twice_y]])
-        )?
-    );
-    Ok(())
+fn made(alloc: Global, ring: Ring, op: Op) -> Result<Matrix, PolyError>
+    requires { ring.vars ≡ 2 }
+{
+    match op {
+        Op::Times(a, b) => times(alloc, ring, a, b),
+        Op::Twist(a, e) => twist(alloc, ring, a, e),
+        Op::Flip(a) => Ok(flip(alloc, ring, a)?),
+        Op::Beside(a, b) => Ok(beside(alloc, ring, a, b)?),
+        Op::Stack(a, b) => Ok(stack(alloc, ring, a, b)?),
+        Op::Pick(a) => Ok(pick(alloc, ring, a)?),
+        Op::PickNone(a) => Ok(pick_none(alloc, ring, a)?),
+        Op::Unit(n) => Ok(Matrix::unit(alloc, ring, n)?),
+    }
 }
 
-#[test]
-fn products_where_coefficients_cancel(rt: HostRuntime) -> Result<(), Fail> {
-    let alloc = rt.alloc();
-    let x: &[Listed] = &[([1, 0], 1)];
-    let y: &[Listed] = &[([0, 1], 1)];
-    let xy: &[Listed] = &[([1, 1], 1)];
-    let zero: &[Listed] = &[];
-    let minus_x: &[Listed] = &[([1, 0], 30)];
-    let minus_y: &[Listed] = &[([0, 1], 30)];
-    assert!(rt;
-        times_is(
-            alloc,
-            Prime::ThirtyOne,
-            (1, &[&[minus_x]]),
-            (1, &[&[minus_y]]),
-            (1, &[&[xy]])
-        )?
-    );
-    assert!(rt;
-        times_is(
-            alloc,
-            Prime::ThirtyOne,
-            (1, &[&[minus_x], &[x]]),
-            (2, &[&[y, y]]),
-            (1, &[&[zero]])
-        )?
-    );
-    Ok(())
+// Whether m is this matrix, and so is its copy.
+fn is(alloc: Global, ring: Ring, m: &Matrix, want: Given) -> Result<bool, AllocError>
+    requires { ring.vars ≡ 2 }
+{
+    let want = matrix(alloc, ring, want)?;
+    let copy = m.copy(alloc)?;
+    Ok(same(m, &want) && same(&copy, &want))
 }
 
-#[test]
-fn products_without_rows_or_columns(rt: HostRuntime) -> Result<(), Fail> {
-    let alloc = rt.alloc();
-    let x: &[Listed] = &[([1, 0], 1)];
-    let zero: &[Listed] = &[];
-    assert!(rt;
-        times_is(
-            alloc,
-            Prime::Three,
-            (2, &[]),
-            (0, &[&[], &[]]),
-            (2, &[&[zero, zero], &[zero, zero]])
-        )?
-    );
-    assert!(rt; times_is(alloc, Prime::Three, (0, &[&[]]), (1, &[&[x]]), (0, &[&[]]))?);
-    assert!(rt; times_is(alloc, Prime::Three, (1, &[&[x]]), (1, &[]), (1, &[]))?);
-    Ok(())
+// What is made, and its value, or none where an exponent would pass the bound.
+type Case<'a> = (Op<'a>, Option<Given<'a, 'a, 'a>>);
+
+fn holds(alloc: Global, ring: Ring, case: &Case) -> Result<bool, PolyError>
+    requires { ring.vars ≡ 2 }
+{
+    let m = match made(alloc, ring, case.0) {
+        Ok(m) => m,
+        Err(PolyError::Exponent) => return Ok(case.1.is_none()),
+        Err(PolyError::Memory) => return Err(PolyError::Memory),
+    };
+    let Some(want) = case.1 else {
+        return Ok(false);
+    };
+    Ok(is(alloc, ring, &m, want)?)
 }
+
+fn all_hold(alloc: Global, ring: Ring, cases: &[Case]) -> Result<bool, PolyError>
+    requires { ring.vars ≡ 2 }
+{
+    for case in cases {
+        if !holds(alloc, ring, case)? {
+            return Ok(false);
+        }
+    }
+    Ok(true)
+}
+
+const ZERO: &[Listed] = &[];
+
+const ONE: &[Listed] = &[([0, 0], 1)];
+
+const TWO: &[Listed] = &[([0, 0], 2)];
+
+const X: &[Listed] = &[([1, 0], 1)];
+
+const Y: &[Listed] = &[([0, 1], 1)];
+
+const XY: &[Listed] = &[([1, 1], 1)];
+
+const X_PLUS_Y: &[Listed] = &[([1, 0], 1), ([0, 1], 1)];
+
+const SQUARES: &[Listed] = &[([2, 0], 1), ([0, 2], 1)];
+
+const TWICE_X: &[Listed] = &[([1, 0], 2)];
+
+const TWICE_Y: &[Listed] = &[([0, 1], 2)];
+
+const XY_PLUS_TWO: &[Listed] = &[([1, 1], 1), ([0, 0], 2)];
+
+// -1 = 30 in characteristic 31.
+const MINUS_X: &[Listed] = &[([1, 0], 30)];
+
+const MINUS_Y: &[Listed] = &[([0, 1], 30)];
+
+const LOW: &[Listed] = &[([8_388_607, 0], 1)];
+
+const HIGH: &[Listed] = &[([8_388_608, 0], 1)];
+
+const MOST: &[Listed] = &[([16_777_215, 0], 1)];
+
+const THIRD: &[Listed] = &[([5_592_405, 0], 1)];
+
+const BEYOND: &[Listed] = &[([0, 5_592_406], 1)];
+
+const F: &[Listed] = &[([1, 1], 1), ([0, 0], 1)];
+
+const F_SQUARED: &[Listed] = &[([2, 2], 1), ([0, 0], 1)];
+
+const F_NINTH: &[Listed] = &[([9, 9], 1), ([0, 0], 1)];
+
+const G: &[Listed] = &[([2, 0], 1)];
+
+const G_SQUARED: &[Listed] = &[([4, 0], 1)];
+
+const OVER_TWO: &[Case] = &[
+    (
+        Op::Times((1, &[&[X], &[Y]]), (2, &[&[X, Y]])),
+        Some((1, &[&[SQUARES]])),
+    ),
+    (
+        Op::Times((1, &[&[X_PLUS_Y]]), (1, &[&[X_PLUS_Y]])),
+        Some((1, &[&[SQUARES]])),
+    ),
+    // the sum would cancel
+    (
+        Op::Times((1, &[&[HIGH], &[HIGH]]), (2, &[&[HIGH, HIGH]])),
+        None,
+    ),
+    (
+        Op::Twist((2, &[&[F, G]]), 1),
+        Some((2, &[&[F_SQUARED, G_SQUARED]])),
+    ),
+    (Op::Twist((1, &[&[G]]), 24), None),
+];
+
+const OVER_THREE: &[Case] = &[
+    (
+        Op::Times((2, &[&[ONE, Y], &[X, TWO]]), (2, &[&[X, ONE], &[ZERO, Y]])),
+        Some((2, &[&[TWICE_X, XY_PLUS_TWO], &[XY, TWICE_Y]])),
+    ),
+    // without rows or columns
+    (
+        Op::Times((2, &[]), (0, &[&[], &[]])),
+        Some((2, &[&[ZERO, ZERO], &[ZERO, ZERO]])),
+    ),
+    (Op::Times((0, &[&[]]), (1, &[&[X]])), Some((0, &[&[]]))),
+    (Op::Times((1, &[&[X]]), (1, &[])), Some((1, &[]))),
+    (Op::Twist((1, &[&[F]]), 2), Some((1, &[&[F_NINTH]]))),
+    (Op::Twist((1, &[&[THIRD]]), 1), Some((1, &[&[MOST]]))),
+    (Op::Twist((1, &[&[THIRD], &[BEYOND]]), 1), None),
+];
+
+const OVER_THIRTY_ONE: &[Case] = &[
+    // coefficients cancel
+    (
+        Op::Times((1, &[&[MINUS_X]]), (1, &[&[MINUS_Y]])),
+        Some((1, &[&[XY]])),
+    ),
+    (
+        Op::Times((1, &[&[MINUS_X], &[X]]), (2, &[&[Y, Y]])),
+        Some((1, &[&[ZERO]])),
+    ),
+    (Op::Twist((1, &[&[F], &[G]]), 0), Some((1, &[&[F], &[G]]))),
+    (Op::Twist((0, &[&[], &[]]), 9), Some((0, &[&[], &[]]))),
+    (Op::Twist((3, &[]), 9), Some((3, &[]))),
+];
 
 // 16,777,215 is the bound. A product that passes it is refused, also one that would cancel; a product with 0 is not formed.
-#[test]
-fn products_meet_the_bound(rt: HostRuntime) -> Result<(), Fail> {
-    let alloc = rt.alloc();
-    let low: &[Listed] = &[([8_388_607, 0], 1)];
-    let high: &[Listed] = &[([8_388_608, 0], 1)];
-    let most: &[Listed] = &[([16_777_215, 0], 1)];
-    let zero: &[Listed] = &[];
-    for prime in [Prime::Two, Prime::Three, Prime::ThirtyOne] {
-        assert!(rt;
-            times_is(
-                alloc,
-                prime,
-                (1, &[&[high]]),
-                (1, &[&[low]]),
-                (1, &[&[most]])
-            )?
-        );
-        assert!(rt;
-            times_is(
-                alloc,
-                prime,
-                (1, &[&[high], &[low]]),
-                (2, &[&[low, zero]]),
-                (1, &[&[most]])
-            )?
-        );
-        assert!(rt;
-            matches!(
-                times(alloc, prime, (1, &[&[high]]), (1, &[&[high]])),
-                Err(PolyError::Exponent)
-            )
-        );
-        assert!(rt;
-            matches!(
-                times(
-                    alloc,
-                    prime,
-                    (1, &[&[zero], &[high]]),
-                    (2, &[&[low, low], &[low, high]])
-                ),
-                Err(PolyError::Exponent)
-            )
-        );
-    }
-    assert!(rt;
-        matches!(
-            times(
-                alloc,
-                Prime::Two,
-                (1, &[&[high], &[high]]),
-                (2, &[&[high, high]])
-            ),
-            Err(PolyError::Exponent)
-        )
-    );
-    Ok(())
-}
+const OVER_EACH: &[Case] = &[
+    (
+        Op::Times((1, &[&[HIGH]]), (1, &[&[LOW]])),
+        Some((1, &[&[MOST]])),
+    ),
+    (
+        Op::Times((1, &[&[HIGH], &[LOW]]), (2, &[&[LOW, ZERO]])),
+        Some((1, &[&[MOST]])),
+    ),
+    (Op::Times((1, &[&[HIGH]]), (1, &[&[HIGH]])), None),
+    (
+        Op::Times((1, &[&[ZERO], &[HIGH]]), (2, &[&[LOW, LOW], &[LOW, HIGH]])),
+        None,
+    ),
+    (
+        Op::Flip((2, &[&[X, Y], &[ZERO, X], &[Y, Y]])),
+        Some((3, &[&[X, ZERO, Y], &[Y, X, Y]])),
+    ),
+    (Op::Flip((0, &[&[], &[]])), Some((2, &[]))),
+    (Op::Flip((2, &[])), Some((0, &[&[], &[]]))),
+    (Op::Flip((0, &[])), Some((0, &[]))),
+    (
+        Op::Beside((2, &[&[X, Y]]), (2, &[&[Y, ZERO], &[X, X]])),
+        Some((2, &[&[X, Y], &[Y, ZERO], &[X, X]])),
+    ),
+    (Op::Beside((1, &[]), (1, &[&[X]])), Some((1, &[&[X]]))),
+    (
+        Op::Beside((0, &[&[]]), (0, &[&[], &[]])),
+        Some((0, &[&[], &[], &[]])),
+    ),
+    (
+        Op::Stack((1, &[&[X], &[Y]]), (2, &[&[Y, ZERO], &[X, X]])),
+        Some((3, &[&[X, Y, ZERO], &[Y, X, X]])),
+    ),
+    (Op::Stack((0, &[&[]]), (1, &[&[X]])), Some((1, &[&[X]]))),
+    (Op::Stack((2, &[]), (3, &[])), Some((5, &[]))),
+    (
+        Op::Pick((1, &[&[X], &[Y], &[XY]])),
+        Some((1, &[&[XY], &[X], &[X]])),
+    ),
+    (Op::PickNone((1, &[&[X], &[Y], &[XY]])), Some((1, &[]))),
+    (
+        Op::Unit(3),
+        Some((
+            3,
+            &[&[ONE, ZERO, ZERO], &[ZERO, ONE, ZERO], &[ZERO, ZERO, ONE]],
+        )),
+    ),
+    (Op::Unit(1), Some((1, &[&[ONE]]))),
+    (Op::Unit(0), Some((0, &[]))),
+];
+
+const GROUPS: &[(Prime, &[Case])] = &[
+    (Prime::Two, OVER_TWO),
+    (Prime::Three, OVER_THREE),
+    (Prime::ThirtyOne, OVER_THIRTY_ONE),
+    (Prime::Two, OVER_EACH),
+    (Prime::Three, OVER_EACH),
+    (Prime::ThirtyOne, OVER_EACH),
+];
 
 #[test]
-fn twists(rt: HostRuntime) -> Result<(), Fail> {
-    let alloc = rt.alloc();
-    let f: &[Listed] = &[([1, 1], 1), ([0, 0], 1)];
-    let g: &[Listed] = &[([2, 0], 1)];
-    let f_squared: &[Listed] = &[([2, 2], 1), ([0, 0], 1)];
-    let g_squared: &[Listed] = &[([4, 0], 1)];
-    let f_ninth: &[Listed] = &[([9, 9], 1), ([0, 0], 1)];
-    assert!(rt;
-        twist_is(
-            alloc,
-            Prime::Two,
-            (2, &[&[f, g]]),
-            1,
-            (2, &[&[f_squared, g_squared]])
-        )?
-    );
-    assert!(rt; twist_is(alloc, Prime::Three, (1, &[&[f]]), 2, (1, &[&[f_ninth]]))?);
-    assert!(rt;
-        twist_is(
-            alloc,
-            Prime::ThirtyOne,
-            (1, &[&[f], &[g]]),
-            0,
-            (1, &[&[f], &[g]])
-        )?
-    );
-    assert!(rt;
-        twist_is(
-            alloc,
-            Prime::ThirtyOne,
-            (0, &[&[], &[]]),
-            9,
-            (0, &[&[], &[]])
-        )?
-    );
-    assert!(rt; twist_is(alloc, Prime::ThirtyOne, (3, &[]), 9, (3, &[]))?);
-    let third: &[Listed] = &[([5_592_405, 0], 1)];
-    let most: &[Listed] = &[([16_777_215, 0], 1)];
-    let beyond: &[Listed] = &[([0, 5_592_406], 1)];
-    assert!(rt; twist_is(alloc, Prime::Three, (1, &[&[third]]), 1, (1, &[&[most]]))?);
-    assert!(rt;
-        matches!(
-            twist(alloc, Prime::Three, (1, &[&[third], &[beyond]]), 1),
-            Err(PolyError::Exponent)
-        )
-    );
-    assert!(rt;
-        matches!(
-            twist(alloc, Prime::Two, (1, &[&[g]]), 24),
-            Err(PolyError::Exponent)
-        )
-    );
-    Ok(())
-}
-
-#[test]
-fn transposes(rt: HostRuntime) -> Result<(), Fail> {
-    let alloc = rt.alloc();
-    let x: &[Listed] = &[([1, 0], 1)];
-    let y: &[Listed] = &[([0, 1], 1)];
-    let zero: &[Listed] = &[];
-    for prime in [Prime::Two, Prime::Three, Prime::ThirtyOne] {
-        assert!(rt;
-            flip_is(
-                alloc,
-                prime,
-                (2, &[&[x, y], &[zero, x], &[y, y]]),
-                (3, &[&[x, zero, y], &[y, x, y]])
-            )?
-        );
-        assert!(rt; flip_is(alloc, prime, (0, &[&[], &[]]), (2, &[]))?);
-        assert!(rt; flip_is(alloc, prime, (2, &[]), (0, &[&[], &[]]))?);
-        assert!(rt; flip_is(alloc, prime, (0, &[]), (0, &[]))?);
-    }
-    Ok(())
-}
-
-#[test]
-fn joins(rt: HostRuntime) -> Result<(), Fail> {
-    let alloc = rt.alloc();
-    let x: &[Listed] = &[([1, 0], 1)];
-    let y: &[Listed] = &[([0, 1], 1)];
-    let zero: &[Listed] = &[];
-    for prime in [Prime::Two, Prime::Three, Prime::ThirtyOne] {
-        assert!(rt;
-            beside_is(
-                alloc,
-                prime,
-                (2, &[&[x, y]]),
-                (2, &[&[y, zero], &[x, x]]),
-                (2, &[&[x, y], &[y, zero], &[x, x]])
-            )?
-        );
-        assert!(rt; beside_is(alloc, prime, (1, &[]), (1, &[&[x]]), (1, &[&[x]]))?);
-        assert!(rt;
-            beside_is(
-                alloc,
-                prime,
-                (0, &[&[]]),
-                (0, &[&[], &[]]),
-                (0, &[&[], &[], &[]])
-            )?
-        );
-        assert!(rt;
-            stack_is(
-                alloc,
-                prime,
-                (1, &[&[x], &[y]]),
-                (2, &[&[y, zero], &[x, x]]),
-                (3, &[&[x, y, zero], &[y, x, x]])
-            )?
-        );
-        assert!(rt; stack_is(alloc, prime, (0, &[&[]]), (1, &[&[x]]), (1, &[&[x]]))?);
-        assert!(rt; stack_is(alloc, prime, (2, &[]), (3, &[]), (5, &[]))?);
-    }
-    Ok(())
-}
-
-#[test]
-fn picked_columns(rt: HostRuntime) -> Result<(), Fail> {
-    let alloc = rt.alloc();
-    let x: &[Listed] = &[([1, 0], 1)];
-    let y: &[Listed] = &[([0, 1], 1)];
-    let xy: &[Listed] = &[([1, 1], 1)];
-    for prime in [Prime::Two, Prime::Three, Prime::ThirtyOne] {
-        let a = matrix(alloc, plane(prime), (1, &[&[x], &[y], &[xy]]))?;
-        if a.cols() != 3 {
-            return Ok(());
-        }
-        let some = a.pick(alloc, &[3, 1, 1])?;
-        assert!(rt;
-            same(
-                &some,
-                &matrix(alloc, plane(prime), (1, &[&[xy], &[x], &[x]]))?
-            )
-        );
-        let none = a.pick(alloc, &[])?;
-        assert!(rt; same(&none, &matrix(alloc, plane(prime), (1, &[]))?));
-    }
-    Ok(())
-}
-
-#[test]
-fn units(rt: HostRuntime) -> Result<(), Fail> {
-    let alloc = rt.alloc();
-    let one: &[Listed] = &[([0, 0], 1)];
-    let zero: &[Listed] = &[];
-    for prime in [Prime::Two, Prime::Three, Prime::ThirtyOne] {
-        assert!(rt;
-            unit_is(
-                alloc,
-                prime,
-                3,
-                (
-                    3,
-                    &[&[one, zero, zero], &[zero, one, zero], &[zero, zero, one]]
-                )
-            )?
-        );
-        assert!(rt; unit_is(alloc, prime, 1, (1, &[&[one]]))?);
-        assert!(rt; unit_is(alloc, prime, 0, (0, &[]))?);
+fn matrices_are_those_found_by_hand(rt: HostRuntime) -> Result<(), Fail> {
+    for group in GROUPS {
+        assert!(rt; all_hold(rt.alloc(), plane(group.0), group.1)?);
     }
     Ok(())
 }

@@ -1,5 +1,5 @@
 // Completed graphs against values found by hand.
-ghost use Rattle.std.specs.Prelude.{All, IfOk, length, ◌≡◌, ◌≤◌};
+ghost use Rattle.std.specs.Prelude.{All, IfOk, length, ◌+◌, ◌≡◌, ◌≤◌};
 ghost use Rattle.fm_mat.specs.Matrices.{AreColumns};
 ghost use Rattle.fm_poly.specs.Polys.{IsTermOf};
 ghost use Rattle.fm_vec.specs.Components.{AreOver};
@@ -98,13 +98,14 @@ fn columns_of(
     Ok(out)
 }
 
+// At most nine rows and nine columns.
 pub(crate) fn matrix(alloc: Global, ring: Ring, given: Given) -> Result<Matrix, AllocError>
     requires { ring.vars ≡ 2 }
     ensures ring { IfOk result (λ m. m.ring ≡ ring) }
-    ensures few { IfOk result (λ m. length m.columns ≤ 9) }
+    ensures small { IfOk result (λ m. m.rows + length m.columns ≤ 18) }
 {
     let (rows, columns) = given;
-    if columns.len() > 9 {
+    if rows > 9 || columns.len() > 9 {
         return Err(AllocError);
     }
     let columns = columns_of(alloc, ring, rows, columns)?;
@@ -135,44 +136,68 @@ pub(crate) fn same(a: &Matrix, b: &Matrix) -> bool {
     true
 }
 
-// The completed graph, and the units left.
-fn completed(alloc: Global, prime: Prime, a: Given, units: u32) -> Result<(Graph, u32), Stop> {
-    let a = matrix(alloc, plane(prime), a)?;
-    if a.rows() > 9 {
-        return Err(Stop::Memory);
-    }
-    let mut work = Work::new(units);
-    let g = graph_of(alloc, a, &mut work)?;
-    Ok((g, work.left()))
+// Whether m is this matrix.
+pub(crate) fn is(alloc: Global, prime: Prime, m: &Matrix, want: Given) -> Result<bool, AllocError> {
+    let want = matrix(alloc, plane(prime), want)?;
+    Ok(same(m, &want))
 }
+
+// The completed graph.
+pub(crate) fn graph(alloc: Global, ring: Ring, a: Given, work: &mut Work) -> Result<Graph, Stop>
+    requires { ring.vars ≡ 2 }
+    ensures { IfOk result (λ g. g.matrix.ring ≡ ring) }
+{
+    let a = matrix(alloc, ring, a)?;
+    graph_of(alloc, a, work)
+}
+
+fn syzygies_are(alloc: Global, g: &Graph, want: Given) -> Result<bool, AllocError> {
+    let kernel = syzygies(alloc, g)?;
+    is(alloc, Prime::Three, &kernel, want)
+}
+
+// A matrix, the units that its completion needs, and its syzygies.
+type Kernel<'a> = (Given<'a, 'a, 'a>, u32, Given<'a, 'a, 'a>);
 
 // Whether the completion spends all of the units, and the syzygies are these.
-fn syzygies_are(
-    alloc: Global,
-    prime: Prime,
-    a: Given,
-    units: u32,
-    want: Given,
-) -> Result<bool, Stop> {
-    let (g, left) = completed(alloc, prime, a, units)?;
-    let kernel = syzygies(alloc, &g)?;
-    let want = matrix(alloc, plane(prime), want)?;
-    Ok(left == 0 && same(&kernel, &want))
+fn kernel_is(alloc: Global, case: &Kernel) -> Result<bool, Stop> {
+    let (a, units, want) = *case;
+    let mut work = Work::new(units);
+    let g = graph(alloc, plane(Prime::Three), a, &mut work)?;
+    let same = syzygies_are(alloc, &g, want)?;
+    Ok(work.left() == 0 && same)
 }
 
-// The syzygies of the twist by p^e.
-fn twisted_syzygies(
-    alloc: Global,
-    prime: Prime,
-    a: Given,
-    e: u8,
-) -> Result<(Graph, Matrix), PolyError> {
-    let Ok((g, _left)) = completed(alloc, prime, a, 100) else {
+// The units left by the completion of x and y, and the numbers of its members and of the entries of its log.
+fn numbers(alloc: Global, units: u32) -> Result<(u32, usize, usize), Stop> {
+    let mut work = Work::new(units);
+    let g = graph(alloc, plane(Prime::Three), BOTH, &mut work)?;
+    Ok((work.left(), g.members().len(), g.log().len()))
+}
+
+// The twist of the graph by 3.
+fn twist(alloc: Global, a: Given) -> Result<Graph, PolyError> {
+    let mut work = Work::new(100);
+    let Ok(g) = graph(alloc, plane(Prime::Three), a, &mut work) else {
         return Err(PolyError::Memory);
     };
-    let h = twisted(alloc, &g, e)?;
-    let kernel = syzygies(alloc, &h)?;
-    Ok((h, kernel))
+    twisted(alloc, &g, 1)
+}
+
+// A matrix, its twist by 3, the syzygies of that, and the number of its members.
+type Twist<'a> = (
+    Given<'a, 'a, 'a>,
+    Given<'a, 'a, 'a>,
+    Given<'a, 'a, 'a>,
+    usize,
+);
+
+fn twist_is(alloc: Global, case: &Twist) -> Result<bool, PolyError> {
+    let (a, matrix, kernel, count) = *case;
+    let h = twist(alloc, a)?;
+    let same_matrix = is(alloc, Prime::Three, h.matrix(), matrix)?;
+    let same_kernel = syzygies_are(alloc, &h, kernel)?;
+    Ok(same_matrix && same_kernel && h.members().len() == count && h.log().len() == count)
 }
 
 pub(crate) const ZERO: &[Listed] = &[];
@@ -191,74 +216,61 @@ pub(crate) const XY: &[Listed] = &[([1, 1], 1)];
 
 pub(crate) const YY: &[Listed] = &[([0, 2], 1)];
 
+pub(crate) const BOTH: Given = (1, &[&[X], &[Y]]);
+
+const KERNELS: &[Kernel] = &[
+    // x * y = y * x
+    (BOTH, 3, (2, &[&[Y, TWICE_X]])),
+    // the second column is y times the first
+    ((1, &[&[X], &[XY]]), 3, (2, &[&[Y, TWO]])),
+    ((2, &[&[X, Y], &[XY, YY]]), 3, (2, &[&[Y, TWO]])),
+    // a zero column, a matrix without columns, and one without rows
+    ((1, &[&[ZERO], &[X]]), 2, (2, &[&[ONE, ZERO]])),
+    ((1, &[]), 0, (0, &[])),
+    ((0, &[&[], &[]]), 2, (2, &[&[ONE, ZERO], &[ZERO, ONE]])),
+    // an injective one
+    ((2, &[&[X, ZERO], &[ZERO, Y]]), 2, (2, &[])),
+];
+
+const TWISTS: &[Twist] = &[
+    (
+        BOTH,
+        (1, &[&[&[([3, 0], 1)]], &[&[([0, 3], 1)]]]),
+        (2, &[&[&[([0, 3], 1)], &[([3, 0], 2)]]]),
+        3,
+    ),
+    // 3 * 5,592,405 is the bound on exponents
+    (
+        (1, &[&[&[([5_592_405, 0], 1)]]]),
+        (1, &[&[&[([16_777_215, 0], 1)]]]),
+        (1, &[]),
+        1,
+    ),
+];
+
+const BEYOND: Twist = ((1, &[&[&[([5_592_406, 0], 1)]]]), (1, &[]), (0, &[]), 1);
+
 #[test]
 fn kernels_of_small_matrices(rt: HostRuntime) -> Result<(), Fail> {
-    let alloc = rt.alloc();
-    let three = Prime::Three;
-    // x * y = y * x
-    assert!(rt; syzygies_are(alloc, three, (1, &[&[X], &[Y]]), 3, (2, &[&[Y, TWICE_X]]))?);
-    // the second column is y times the first
-    assert!(rt; syzygies_are(alloc, three, (1, &[&[X], &[XY]]), 3, (2, &[&[Y, TWO]]))?);
-    assert!(rt;
-        syzygies_are(
-            alloc,
-            three,
-            (2, &[&[X, Y], &[XY, YY]]),
-            3,
-            (2, &[&[Y, TWO]])
-        )?
-    );
-    // a zero column, a matrix without columns, and one without rows
-    assert!(rt; syzygies_are(alloc, three, (1, &[&[ZERO], &[X]]), 2, (2, &[&[ONE, ZERO]]))?);
-    assert!(rt; syzygies_are(alloc, three, (1, &[]), 0, (0, &[]))?);
-    assert!(rt;
-        syzygies_are(
-            alloc,
-            three,
-            (0, &[&[], &[]]),
-            2,
-            (2, &[&[ONE, ZERO], &[ZERO, ONE]])
-        )?
-    );
-    // an injective one
-    assert!(rt; syzygies_are(alloc, three, (2, &[&[X, ZERO], &[ZERO, Y]]), 2, (2, &[]))?);
+    for case in KERNELS {
+        assert!(rt; kernel_is(rt.alloc(), case)?);
+    }
     Ok(())
 }
 
 // One unit for each of both inputs, and one for the S-vector.
 #[test]
 fn three_units_are_needed(rt: HostRuntime) -> Result<(), Fail> {
-    let alloc = rt.alloc();
-    assert!(rt;
-        matches!(
-            completed(alloc, Prime::Three, (1, &[&[X], &[Y]]), 2),
-            Err(Stop::Budget)
-        )
-    );
-    let (g, left) = completed(alloc, Prime::Three, (1, &[&[X], &[Y]]), 3)?;
-    assert!(rt; left == 0 && g.members().len() == 3 && g.log().len() == 3);
+    assert!(rt; matches!(numbers(rt.alloc(), 2), Err(Stop::Budget)));
+    assert!(rt; matches!(numbers(rt.alloc(), 3), Ok((0, 3, 3))));
     Ok(())
 }
 
 #[test]
 fn twists_of_graphs(rt: HostRuntime) -> Result<(), Fail> {
-    let alloc = rt.alloc();
-    let ring = plane(Prime::Three);
-    let cubes: Given = (1, &[&[&[([3, 0], 1)]], &[&[([0, 3], 1)]]]);
-    let cube_kernel: Given = (2, &[&[&[([0, 3], 1)], &[([3, 0], 2)]]]);
-    let (h, kernel) = twisted_syzygies(alloc, Prime::Three, (1, &[&[X], &[Y]]), 1)?;
-    assert!(rt; same(h.matrix(), &matrix(alloc, ring, cubes)?));
-    assert!(rt; same(&kernel, &matrix(alloc, ring, cube_kernel)?));
-    assert!(rt; h.members().len() == 3 && h.log().len() == 3);
-    // 3 * 5,592,405 is the bound on exponents
-    assert!(rt;
-        twisted_syzygies(alloc, Prime::Three, (1, &[&[&[([5_592_405, 0], 1)]]]), 1).is_ok()
-    );
-    assert!(rt;
-        matches!(
-            twisted_syzygies(alloc, Prime::Three, (1, &[&[&[([5_592_406, 0], 1)]]]), 1),
-            Err(PolyError::Exponent)
-        )
-    );
+    for case in TWISTS {
+        assert!(rt; twist_is(rt.alloc(), case)?);
+    }
+    assert!(rt; matches!(twist_is(rt.alloc(), &BEYOND), Err(PolyError::Exponent)));
     Ok(())
 }

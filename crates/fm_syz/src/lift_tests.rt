@@ -1,135 +1,142 @@
 // Lifts against solutions found by hand, over GF(3).
 use crate::graph_tests::{
-    Given, Listed, ONE, TWO, X, XY, Y, YY, ZERO, column, matrix, plane, same, same_columns,
+    BOTH, Given, Listed, ONE, TWO, X, XY, Y, YY, ZERO, column, graph, is, matrix, plane,
+    same_columns,
 };
-use crate::{Inside, Lifted, graph_of, inside_of, lift, lift_columns, whole_of};
+use crate::{Inside, Lifted, inside_of, lift, lift_columns, whole_of};
 use fm_gfp::Prime;
+use fm_poly::Poly;
 use fm_run::{Stop, Work};
-use std::alloc::Global;
+use std::alloc::{AllocError, Global};
 use std::test::Fail;
+
+// The entries of a vector.
+type Entries<'a, 'b> = &'a [&'b [Listed]];
 
 const XY_AND_YY: &[Listed] = &[([1, 1], 1), ([0, 2], 1)];
 
 const X_AND_Y: &[Listed] = &[([1, 0], 1), ([0, 1], 1)];
 
-fn lift_of(alloc: Global, a: Given, v: &[&[Listed]]) -> Result<Lifted, Stop> {
+fn lift_of(alloc: Global, a: Given, v: Entries) -> Result<Lifted, Stop> {
     let ring = plane(Prime::Three);
-    let a = matrix(alloc, ring, a)?;
-    let rows = a.rows();
-    if rows > 9 {
-        return Err(Stop::Memory);
-    }
-    let v = column(alloc, ring, rows, v)?;
     let mut work = Work::new(100);
-    let g = graph_of(alloc, a, &mut work)?;
+    let g = graph(alloc, ring, a, &mut work)?;
+    let v = column(alloc, ring, g.rows(), v)?;
     lift(alloc, &g, &v, &mut work)
 }
 
-// Whether this is the solution of A * w = v.
-fn solves(
-    alloc: Global,
-    a: Given,
-    v: &[&[Listed]],
-    rows: u32,
-    w: &[&[Listed]],
-) -> Result<bool, Stop> {
-    let want = column(alloc, plane(Prime::Three), rows, w)?;
-    match lift_of(alloc, a, v)? {
-        Lifted::InImage(w) => Ok(same_columns(&w, &want)),
-        Lifted::NotInImage(_) => Ok(false),
+// Whether c has these entries, as many as the number says.
+fn column_is(alloc: Global, c: &[Poly], want: Option<(u32, Entries)>) -> Result<bool, AllocError> {
+    let Some((rows, entries)) = want else {
+        return Ok(false);
+    };
+    let want = column(alloc, plane(Prime::Three), rows, entries)?;
+    Ok(same_columns(c, &want))
+}
+
+// A matrix A, a vector v, and the length and the entries of the solution of A * w = v, or none.
+type Solved<'a> = (
+    Given<'a, 'a, 'a>,
+    Entries<'a, 'a>,
+    Option<(u32, Entries<'a, 'a>)>,
+);
+
+fn solves(alloc: Global, case: &Solved) -> Result<bool, Stop> {
+    match lift_of(alloc, case.0, case.1)? {
+        Lifted::InImage(w) => Ok(column_is(alloc, &w, case.2)?),
+        Lifted::NotInImage(outside) => Ok(case.2.is_none() && outside.column == 1),
     }
 }
 
-// Whether A * w = v has no solution.
-fn has_none(alloc: Global, a: Given, v: &[&[Listed]]) -> Result<bool, Stop> {
-    match lift_of(alloc, a, v)? {
-        Lifted::InImage(_) => Ok(false),
-        Lifted::NotInImage(outside) => Ok(outside.column == 1),
+fn first(inside: Inside) -> Option<u32> {
+    match inside {
+        Inside::All(_) => None,
+        Inside::First(outside) => Some(outside.column),
     }
 }
 
-// The first column of m that is outside the image of a, or none.
-fn first_outside(alloc: Global, a: Given, m: Given) -> Result<Option<u32>, Stop> {
+// The first column of m that is outside the image of (x, y), or none.
+fn first_outside(alloc: Global, m: Given) -> Result<Option<u32>, Stop> {
     let ring = plane(Prime::Three);
-    let a = matrix(alloc, ring, a)?;
+    let mut work = Work::new(100);
+    let g = graph(alloc, ring, BOTH, &mut work)?;
     let m = matrix(alloc, ring, m)?;
-    if a.rows() > 9 || a.rows() != m.rows() {
+    if g.rows() != m.rows() {
         return Err(Stop::Memory);
     }
-    let mut work = Work::new(100);
-    let g = graph_of(alloc, a, &mut work)?;
-    match inside_of(alloc, &m, &g, &mut work)? {
-        Inside::All(_) => Ok(None),
-        Inside::First(outside) => Ok(Some(outside.column)),
-    }
+    Ok(first(inside_of(alloc, &m, &g, &mut work)?))
 }
 
 // The first unit vector that is outside the image of a, or none.
 fn first_unit_outside(alloc: Global, a: Given) -> Result<Option<u32>, Stop> {
-    let ring = plane(Prime::Three);
-    let a = matrix(alloc, ring, a)?;
-    if a.rows() > 9 {
-        return Err(Stop::Memory);
-    }
     let mut work = Work::new(100);
-    let g = graph_of(alloc, a, &mut work)?;
-    match whole_of(alloc, &g, &mut work)? {
-        Inside::All(_) => Ok(None),
-        Inside::First(outside) => Ok(Some(outside.column)),
-    }
+    let g = graph(alloc, plane(Prime::Three), a, &mut work)?;
+    Ok(first(whole_of(alloc, &g, &mut work)?))
 }
 
-// Whether the lifts of the columns of m through a are the columns of w.
-fn lifts_are(alloc: Global, a: Given, m: Given, w: Given) -> Result<bool, Stop> {
+// Whether the lifts of the columns of m through (x, y) are the columns of w.
+fn lifts_are(alloc: Global, m: Given, w: Given) -> Result<bool, Stop> {
     let ring = plane(Prime::Three);
-    let a = matrix(alloc, ring, a)?;
+    let mut work = Work::new(100);
+    let g = graph(alloc, ring, BOTH, &mut work)?;
     let m = matrix(alloc, ring, m)?;
-    let want = matrix(alloc, ring, w)?;
-    if a.rows() > 9 || a.rows() != m.rows() {
+    if g.rows() != m.rows() {
         return Err(Stop::Memory);
     }
-    let mut work = Work::new(100);
-    let g = graph_of(alloc, a, &mut work)?;
     let found = lift_columns(alloc, &g, &m, &mut work)?;
-    Ok(same(&found, &want))
+    Ok(is(alloc, Prime::Three, &found, w)?)
 }
+
+const SOLVED: &[Solved] = &[
+    (BOTH, &[X], Some((2, &[ONE, ZERO]))),
+    (BOTH, &[Y], Some((2, &[ZERO, ONE]))),
+    // (y, y) is a solution too, and (0, x + y) is what the syzygy (y, -x) leaves of it
+    (BOTH, &[XY_AND_YY], Some((2, &[ZERO, X_AND_Y]))),
+    (BOTH, &[ZERO], Some((2, &[ZERO, ZERO]))),
+    (BOTH, &[ONE], None),
+    // 2 * 2 = 1
+    ((1, &[&[TWO]]), &[ONE], Some((1, &[TWO]))),
+    ((2, &[&[X, Y]]), &[X, ZERO], None),
+    ((2, &[&[X, Y]]), &[XY, YY], Some((1, &[Y]))),
+    ((1, &[]), &[X], None),
+];
+
+// Columns, and the number of the first that is outside.
+const OUTSIDE: &[(Given, Option<u32>)] = &[
+    ((1, &[&[X], &[YY]]), None),
+    ((1, &[&[X], &[ONE], &[TWO]]), Some(2)),
+    ((1, &[]), None),
+];
+
+const UNITS_OUTSIDE: &[(Given, Option<u32>)] = &[
+    (BOTH, Some(1)),
+    ((2, &[&[ONE, X], &[ZERO, ONE]]), None),
+    ((2, &[&[ONE, ZERO], &[ZERO, X]]), Some(2)),
+];
+
+const LIFTS: &[(Given, Given)] = &[
+    ((1, &[&[X], &[YY]]), (2, &[&[ONE, ZERO], &[ZERO, Y]])),
+    ((1, &[]), (2, &[])),
+];
 
 #[test]
 fn vectors_are_lifted_where_they_can_be(rt: HostRuntime) -> Result<(), Fail> {
-    let alloc = rt.alloc();
-    let both: Given = (1, &[&[X], &[Y]]);
-    assert!(rt; solves(alloc, both, &[X], 2, &[ONE, ZERO])?);
-    assert!(rt; solves(alloc, both, &[Y], 2, &[ZERO, ONE])?);
-    // (y, y) is a solution too, and (0, x + y) is what the syzygy (y, -x) leaves of it
-    assert!(rt; solves(alloc, both, &[XY_AND_YY], 2, &[ZERO, X_AND_Y])?);
-    assert!(rt; solves(alloc, both, &[ZERO], 2, &[ZERO, ZERO])?);
-    assert!(rt; has_none(alloc, both, &[ONE])?);
-    // 2 * 2 = 1
-    assert!(rt; solves(alloc, (1, &[&[TWO]]), &[ONE], 1, &[TWO])?);
-    assert!(rt; has_none(alloc, (2, &[&[X, Y]]), &[X, ZERO])?);
-    assert!(rt; solves(alloc, (2, &[&[X, Y]]), &[XY, YY], 1, &[Y])?);
-    assert!(rt; has_none(alloc, (1, &[]), &[X])?);
+    for case in SOLVED {
+        assert!(rt; solves(rt.alloc(), case)?);
+    }
     Ok(())
 }
 
 #[test]
 fn columns_are_lifted_up_to_the_first_outside(rt: HostRuntime) -> Result<(), Fail> {
-    let alloc = rt.alloc();
-    let both: Given = (1, &[&[X], &[Y]]);
-    assert!(rt; first_outside(alloc, both, (1, &[&[X], &[YY]]))? == None);
-    assert!(rt; first_outside(alloc, both, (1, &[&[X], &[ONE], &[TWO]]))? == Some(2));
-    assert!(rt; first_outside(alloc, both, (1, &[]))? == None);
-    assert!(rt; first_unit_outside(alloc, both)? == Some(1));
-    assert!(rt; first_unit_outside(alloc, (2, &[&[ONE, X], &[ZERO, ONE]]))? == None);
-    assert!(rt; first_unit_outside(alloc, (2, &[&[ONE, ZERO], &[ZERO, X]]))? == Some(2));
-    assert!(rt;
-        lifts_are(
-            alloc,
-            both,
-            (1, &[&[X], &[YY]]),
-            (2, &[&[ONE, ZERO], &[ZERO, Y]])
-        )?
-    );
-    assert!(rt; lifts_are(alloc, both, (1, &[]), (2, &[]))?);
+    for case in OUTSIDE {
+        assert!(rt; first_outside(rt.alloc(), case.0)? == case.1);
+    }
+    for case in UNITS_OUTSIDE {
+        assert!(rt; first_unit_outside(rt.alloc(), case.0)? == case.1);
+    }
+    for case in LIFTS {
+        assert!(rt; lifts_are(rt.alloc(), case.0, case.1)?);
+    }
     Ok(())
 }

@@ -1,7 +1,7 @@
 use Rattle.std.proofs.Common.{◌≡◌, ◌≤◌, ◌-◌, length}
 use Rattle.fm_judge.specs.Claims.{factored_part}
 use Rattle.fm_pres.specs.Kept.{IsValue}
-use Rattle.fm_conditions.proofs.powers.factored.Given as goal
+use Rattle.fm_conditions.proofs.powers.multiplied.Given as goal
 
 abbrev pub invariant-loop-count : goal.invariant-loop-count
 invariant-loop-count l = record {
