@@ -14,7 +14,7 @@ use Rattle.fm_run.specs.declared.task.Task.{Task}
 use Rattle.fm_run.specs.Tasks.{stopped_in}
 use Rattle.fm_syz.specs.Insides.{IsLiftOf}
 use Rattle.fm_syz.specs.declared.lifted.Lifted.{Lifted}
-use Rattle.fm_chain.specs.Stages.{IsKilledBy}
+use Rattle.fm_chain.specs.Stages.{HasFew, IsKilledBy}
 
 -- a lift that was told of a task, in the ring of the class
 pub stage_says : (q r : Ring) → q ≡ r → (t : Task) (e : ℕ) (m : MatrixValue) (w : List PolyValue) (result : Result Lifted Stop) (x y : Lifted)
@@ -28,6 +28,11 @@ stage_says q r same t e m w (Ok z) x y is named h =
   where
     same_ok : {A E : Type 0} {a b : A} → ◌≡◌ {A = Result A E} (Ok a) (Ok b) → a ≡ b
     same_ok e = cc
+
+-- a solution that was told of a task has few entries
+pub stage_few : (t : Task) (result : Result Lifted Stop) (x y : Lifted) → ◌≡◌ {A = Result Lifted Stopped} (Ok x) (stopped_in t result) → x ≡ y → IfOk result HasFew → HasFew y
+stage_few t (Err z) x y is named h = absurd (cc is)
+stage_few t (Ok z) x y is named h = let found : z ≡ y = cc (is, named) in subst HasFew found h
 
 module _ (r : Ring) where
   pub kernel_at : {A : Type 0} (f : A → MatrixOf r) (xs : List A) (i : ℕ) (x : A) → x ≡ get_or xs i x → i < length xs → matrix_at r.prime r.vars (map f xs) i ≡ f x

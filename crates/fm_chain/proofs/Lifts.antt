@@ -1,5 +1,5 @@
 -- Lifts through twisted graphs.
-use Rattle.std.proofs.Common.{ℕ, ◌≡◌, ◌∷◌, [], Bool, true, false, IfOk, Result, Ok, Err, Vec, Global, length, refl, sym, ap, ◌∙◌, if◌then◌else◌, subst}
+use Rattle.std.proofs.Common.{ℕ, ◌≡◌, ◌<◌, ◌^◌, ◌∷◌, [], Bool, true, false, IfOk, Result, Ok, Err, Vec, Global, length, refl, sym, ap, ◌∙◌, if◌then◌else◌, subst}
 use Rattle.fm_algebra.specs.Matrix.{column_matrix, entrywise, table}
 use Rattle.fm_algebra.specs.PolynomialMatrices.{matrix_column, matrix_twist}
 use Rattle.fm_poly.specs.declared.ring.Ring.{Ring}
@@ -22,7 +22,8 @@ use Rattle.fm_plan.specs.Queries.{lift_at}
 use Rattle.fm_syz.specs.GraphValues.{GraphValue, graph_meaning}
 use Rattle.fm_syz.specs.Insides.{answer_of, lifted_value, IsLiftOf}
 use Rattle.fm_syz.specs.declared.lifted.Lifted.{Lifted}
-use Rattle.fm_syz.specs.declared.lifted.Lifted.TheVariants.{InImage}
+use Rattle.fm_syz.specs.declared.lifted.Lifted.TheVariants.{InImage, NotInImage}
+use Rattle.fm_chain.specs.Stages.{HasFew}
 
 module _ (r : Ring) where
   -- a graph of a twisted matrix
@@ -72,3 +73,9 @@ module _ (r : Ring) where
   solution_long e A n v task (Ok x) lifted w wide told is h =
       let same : x ≡ InImage w = cc (told, is) in
       (subst (IsLiftOf r (matrix_twist r.prime r.vars e A) v) same h).1 ∙ twist_columns r e A ∙ wide
+
+  -- and it has few entries where the matrix has few columns
+  pub lift_few : (A : MatrixOf r) (v : VectorOf r) (n : ℕ) → length A.columns ≡ n → n < 2 ^ 32 → (answer : Result Lifted Stop) → IfOk answer (IsLiftOf r A v) → IfOk answer HasFew
+  lift_few A v n wide low (Err z) h = tt
+  lift_few A v n wide low (Ok (InImage w)) h = subst (λ k. k < 2 ^ 32) (sym (h.1 ∙ wide)) low
+  lift_few A v n wide low (Ok (NotInImage o)) h = tt

@@ -12,7 +12,7 @@ use Rattle.fm_run.specs.Tasks.{named, stopped_in}
 use Rattle.fm_plan.specs.Tasks.{stopped}
 use Rattle.fm_plan.proofs.Turning.{chain_spends}
 use Rattle.fm_run.specs.Turns.{Turn, last, again}
-use Rattle.fm_mat.specs.Matrices.{columns_meaning}
+use Rattle.fm_mat.specs.Matrices.{AreColumns, columns_meaning}
 use Rattle.fm_graphs.specs.Graphs.{MatrixOf}
 use Rattle.fm_graphs.specs.Graphs as runs
 use Rattle.fm_plan.specs.Base.{Links, linked, chain_work}
@@ -21,7 +21,7 @@ use Rattle.fm_syz.specs.GraphValues.{GraphValue, graph_meaning}
 use Rattle.fm_syz.specs.GeneratorValues.{PreimageValue, preimage_meaning}
 use Rattle.fm_syz.specs.declared.inside.Outside.{Outside}
 use Rattle.fm_poly.specs.Polys.{PolyValue}
-use Rattle.fm_chain.specs.Chains.{AreMembersOf, chain_meaning, links_meaning, member_graph, outside_value}
+use Rattle.fm_chain.specs.Chains.{AreMembersOf, HasFactor, chain_meaning, links_meaning, member_graph, outside_value}
 
 abbrev of_link : PreimageValue → GraphValue
 of_link x = x.generators.graph
@@ -81,6 +81,15 @@ module _ (r : Ring) (relations : GraphValue) (links : List PreimageValue) (growt
         stable = graph_meaning r (sym graph i);
         w = record { rows = runs.width r (graph_meaning r (sym graph i)); columns = columns_meaning r ws };
       }))
+
+-- solutions through the graph of the last member but one
+pub factor_found : (relations : GraphValue) (links : List PreimageValue) (growth : List Outside) (x : PreimageValue) (g : GraphValue) (ws : List (List PolyValue))
+    → length links ≡ length growth → g ≡ member_graph relations links (length growth) → g.matrix.ring ≡ relations.matrix.ring
+    → AreColumns g.matrix.ring (length g.matrix.columns) ws
+    → HasFactor relations.matrix.ring relations (record { links = links ++ x ∷ []; growth = growth; w = ws })
+factor_found relations links growth x g ws count is ring over =
+    let same : g ≡ member_graph relations (links ++ x ∷ []) (length growth) = is ∙ sym (member_old relations x links (length growth) (omega (arith, count))) in
+    subst (λ (h : GraphValue). AreColumns relations.matrix.ring (length h.matrix.columns) ws) same (subst (λ (s : Ring). AreColumns s (length g.matrix.columns) ws) ring over)
 
 -- a turn that isn't the last has spent a unit
 pub spends_again : (r : Ring) (u : MatrixOf r) (c c' : Links r) (units left : ℕ) → chain_work r u c units ≡ record { end = Ok (again c'); left = left } → left < units

@@ -4,7 +4,7 @@ use Rattle.std.specs.Global.{Global}
 use Rattle.fm_poly.specs.declared.ring.Ring.{Ring}
 use Rattle.fm_poly.specs.Polys.{PolyValue}
 use Rattle.fm_mat.specs.declared.column.Column.{Column}
-use Rattle.fm_mat.specs.Matrices.{columns_meaning, matrix_meaning}
+use Rattle.fm_mat.specs.Matrices.{AreColumns, columns_meaning, matrix_meaning}
 use Rattle.fm_run.specs.Turns.{Turn, last, again}
 use Rattle.fm_graphs.specs.Graphs as runs
 use Rattle.fm_graphs.specs.Graphs.{MatrixOf}
@@ -47,6 +47,15 @@ with_last (Some ws) t = suc t
 with_last None t = t
 
 module _ (r : Ring) (relations : GraphValue) where
+  -- w is over r, with as many rows as K_t has columns
+  abbrev pub HasFactor : ChainValue → Type 0
+  HasFactor c = AreColumns r (length (member_graph relations c.links (length c.growth)).matrix.columns) c.w
+
+  -- the same for a turn that ends with columns of w
+  abbrev pub EndsWithFactor : List PreimageValue → List Outside → Option (Vec Column Global) → Type 0
+  EndsWithFactor links growth (Some ws) = HasFactor (record { links = links; growth = growth; w = ws.items })
+  EndsWithFactor links growth None = Unit {0}
+
   -- the graph of K_t is the stable one
   abbrev pub chain_meaning : ChainValue → plans.Chain r
   chain_meaning c = record {

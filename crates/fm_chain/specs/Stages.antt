@@ -1,5 +1,5 @@
 -- Moves that kill classes.
-use Rattle.std.specs.Prelude.{ℕ, ◌<◌, ◌≡◌, List, [], ◌∷◌, length, option_map}
+use Rattle.std.specs.Prelude.{ℕ, ◌<◌, ◌^◌, ◌≡◌, List, [], ◌∷◌, length, option_map}
 use Rattle.fm_poly.specs.declared.ring.Ring.{Ring}
 use Rattle.fm_algebra.specs.PolynomialMatrices.{InImage, matrix_twist, vector_product}
 use Rattle.fm_graphs.specs.Graphs.{MatrixOf}
@@ -8,14 +8,27 @@ use Rattle.fm_limit.specs.ResolvedIdeal.{matrix_at}
 use Rattle.fm_mat.specs.Matrices.{column_meaning}
 use Rattle.fm_plan.specs.Results as plans
 use Rattle.fm_syz.specs.GraphValues.{GraphValue}
+use Rattle.fm_syz.specs.declared.lifted.Lifted.{Lifted}
+use Rattle.fm_syz.specs.declared.lifted.Lifted.TheVariants as lifts
+use Rattle.fm_vec.specs.Components.{AreOver}
 use Rattle.fm_chain.specs.Chains.{outside_value}
 use Rattle.fm_chain.specs.declared.stages.Killed.{Killed}
 use Rattle.fm_chain.specs.declared.stages.Killed.TheVariants as kills
+
+-- a solution has fewer than 2^32 entries
+abbrev pub HasFew : Lifted → Type 0
+HasFew (lifts.InImage w) = length w.items < 2 ^ 32
+HasFew (lifts.NotInImage o) = Unit {0}
 
 module _ (r : Ring) where
   abbrev pub killed_value : Killed → plans.Killed r
   killed_value (kills.At moves w before) = plans.killed_at moves (column_meaning r w.items) (option_map outside_value before)
   killed_value (kills.Never before) = plans.never_killed (option_map outside_value before)
+
+  -- the solution is over r, with fewer than 2^32 entries
+  abbrev pub IsKilledOver : Killed → Type 0
+  IsKilledOver (kills.At moves w before) = AreOver r w.items × (length w.items < 2 ^ 32)
+  IsKilledOver (kills.Never before) = Unit {0}
 
   -- graphs over r with m rows
   abbrev pub AreGraphsOf : ℕ → List GraphValue → Type 0

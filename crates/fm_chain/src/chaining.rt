@@ -1,6 +1,6 @@
 // The chain of kernels of a generating morphism.
 ghost use Rattle.std.specs.Prelude.{IfOk, None, OnOk, length, ◌<◌, ◌≡◌, ◌≤◌};
-ghost use Rattle.fm_chain.specs.Chains.{AreMembersOf, IsKernelChain, chain_meaning, links_meaning, turn_value, with_last};
+ghost use Rattle.fm_chain.specs.Chains.{AreMembersOf, EndsWithFactor, HasFactor, IsKernelChain, chain_meaning, links_meaning, turn_value, with_last};
 ghost use Rattle.fm_mat.specs.Matrices.{matrix_meaning};
 ghost use Rattle.fm_plan.specs.Base.{chain_of, chain_turn, chain_work};
 ghost use Rattle.fm_plan.specs.Following.{FollowsPlan};
@@ -30,6 +30,7 @@ pub fn kernel_chain(
     ensures follows { let r = relations.now.matrix.ring in FollowsPlan (chain_meaning r relations.now) result work.old work.new
         (chain_of r side (matrix_meaning r u.now) (graph_meaning r relations.now) work.old) }
     ensures members { IfOk result (λ c. AreMembersOf relations.now.matrix.ring relations.now.matrix.rows c.links) }
+    ensures factor { IfOk result (HasFactor relations.now.matrix.ring relations.now) }
     ensures chain { let r = relations.now.matrix.ring in IfOk result (IsKernelChain r relations.now (matrix_meaning r u.now)) }
 {
     // What the columns and the graph tell: all columns have as many entries, and the graph is complete.
@@ -54,6 +55,7 @@ fn first_repeat(
     ensures follows { let r = relations.now.matrix.ring in FollowsPlan (chain_meaning r relations.now) result work.old work.new
         (chain_of r side (matrix_meaning r u.now) (graph_meaning r relations.now) work.old) }
     ensures members { IfOk result (λ c. AreMembersOf relations.now.matrix.ring relations.now.matrix.rows c.links) }
+    ensures factor { IfOk result (HasFactor relations.now.matrix.ring relations.now) }
 {
     let mut links = Vec::new(alloc);
     let mut growth = Vec::new(alloc);
@@ -88,6 +90,7 @@ fn next_link(
         (chain_turn r side (matrix_meaning r u.now) (links_meaning r relations.now links.old.items growth.old.items) work.old) }
     ensures count { IfOk result (λ o. length links.new.items ≡ with_last o (length growth.new.items)) }
     ensures members { OnOk result (AreMembersOf relations.now.matrix.ring relations.now.matrix.rows links.new.items) }
+    ensures factor { IfOk result (EndsWithFactor relations.now.matrix.ring relations.now links.new.items growth.new.items) }
     ensures spent { IfOk result (λ o. o ≡ None → work.new < work.old) }
 {
     let number = growth.len() as u64 + 1;
@@ -123,6 +126,7 @@ fn grow(
         (chain_work r (matrix_meaning r u.now) (links_meaning r relations.now links.old.items growth.old.items) work.old) }
     ensures count { IfOk result (λ o. length links.new.items ≡ with_last o (length growth.new.items)) }
     ensures members { OnOk result (AreMembersOf relations.now.matrix.ring relations.now.matrix.rows links.new.items) }
+    ensures factor { IfOk result (EndsWithFactor relations.now.matrix.ring relations.now links.new.items growth.new.items) }
     ensures spent { IfOk result (λ o. o ≡ None → work.new < work.old) }
 {
     let g = member(relations, links, growth.len());

@@ -1,5 +1,5 @@
 // Coordinates of classes.
-ghost use Rattle.std.specs.Prelude.{IfOk, length, ◌≡◌};
+ghost use Rattle.std.specs.Prelude.{IfOk, length, ◌<◌, ◌^◌, ◌≡◌};
 ghost use Rattle.fm_algebra.specs.PolynomialMatrices.{InImage, matrix_twist, vector_product};
 ghost use Rattle.fm_mat.specs.Matrices.{column_meaning, matrix_meaning};
 ghost use Rattle.fm_plan.specs.Following.{FollowsPlan};
@@ -31,6 +31,7 @@ pub fn coordinates(
     ensures follows { let r = g.now.matrix.ring in FollowsPlan (λ w. column_meaning r w.items) result work.old work.new
         (ended_with (plans.solution_of r) (task sides.Alone names.Coordinates 0 (plans.lift_at r e (graph_meaning r g.now) (column_meaning r z.now)) work.old)) }
     ensures over { IfOk result (λ w. AreOver g.now.matrix.ring w.items) }
+    ensures few { IfOk result (λ w. length w.items < 2 ^ 32) }
     ensures length { let r = g.now.matrix.ring in let A = matrix_twist r.prime r.vars e (matrix_meaning r g.now.matrix) in
         InImage r.prime r.vars A (column_meaning r z.now) → IfOk result (λ w. length w.items ≡ length g.now.matrix.columns) }
     ensures solves { let r = g.now.matrix.ring in let A = matrix_twist r.prime r.vars e (matrix_meaning r g.now.matrix) in

@@ -1,6 +1,7 @@
 // Lifts through graphs of twisted matrices.
 ghost use Rattle.std.specs.Prelude.{IfOk, length, ◌≡◌};
 ghost use Rattle.fm_algebra.specs.PolynomialMatrices.{matrix_twist};
+ghost use Rattle.fm_chain.specs.Stages.{HasFew};
 ghost use Rattle.fm_mat.specs.Matrices.{column_meaning, matrix_meaning};
 ghost use Rattle.fm_plan.specs.Queries as plans;
 ghost use Rattle.fm_run.specs.Runs.{Follows};
@@ -22,7 +23,10 @@ pub fn lift_at(alloc: Global, g: &Graph, e: u8, v: &[Poly], work: &mut Work) -> 
         (plans.lift_at r e (graph_meaning r g.now) (column_meaning r v.now) work.old) }
     ensures solves { let r = g.now.matrix.ring in
         IfOk result (IsLiftOf r (matrix_twist r.prime r.vars e (matrix_meaning r g.now.matrix)) (column_meaning r v.now)) }
+    ensures few { IfOk result HasFew }
 {
     let h = twisted_graph(alloc, g, e)?;
+    // What the graph tells: it has few columns.
+    let _matrix = h.matrix();
     lift(alloc, &h, v, work)
 }

@@ -5,6 +5,7 @@ ghost use Rattle.fm_mat.specs.Matrices.{matrix_meaning};
 ghost use Rattle.fm_plan.specs.Base.{Links, chain_work};
 ghost use Rattle.fm_run.specs.Runs.{Follows};
 ghost use Rattle.fm_syz.specs.GraphValues.{graph_meaning};
+ghost use Rattle.fm_syz.specs.Insides.{HasColumns};
 
 use crate::twists::twisted_matrix;
 use fm_mat::Matrix;
@@ -35,6 +36,7 @@ pub(crate) fn next_member(
         → Follows (link_value r c) result work.old work.new (chain_work r (matrix_meaning r u.now) c work.old) }
     ensures ring { IfOk result (λ x. x.member.generators.graph.matrix.ring ≡ g.now.matrix.ring) }
     ensures rows { IfOk result (λ x. x.member.generators.graph.matrix.rows ≡ g.now.matrix.rows) }
+    ensures columns { IfOk result (λ x. HasColumns g.now.matrix.ring (length g.now.matrix.columns) x.inside) }
 {
     let power = twisted_matrix(alloc, g.matrix(), 1)?;
     let member = preimage(alloc, u, &power, work)?;

@@ -1,6 +1,6 @@
 // After how many moves a class is a coboundary.
 ghost use Rattle.std.specs.Prelude.{IfOk, None, length, map, ◌≡◌};
-ghost use Rattle.fm_chain.specs.Stages.{AreGraphsOf, IsLeast, killed_value};
+ghost use Rattle.fm_chain.specs.Stages.{AreGraphsOf, IsKilledOver, IsLeast, killed_value};
 ghost use Rattle.fm_mat.specs.Matrices.{column_meaning, matrix_meaning};
 ghost use Rattle.fm_plan.specs.Following.{FollowsPlan};
 ghost use Rattle.fm_plan.specs.Queries as plans;
@@ -41,6 +41,7 @@ pub fn kill_stage(
     ensures follows { FollowsPlan (killed_value ring) result work.old work.new
         (plans.stages ring e (column_meaning ring w.now) 0 None (map (λ g. graph_meaning ring g.now) graphs.now) work.old) }
     ensures least { IfOk result (IsLeast ring e (column_meaning ring w.now) (map (λ g. matrix_meaning ring g.now.matrix) graphs.now)) }
+    ensures over { IfOk result (IsKilledOver ring) }
 {
     let mut before = None;
     let mut moves = 0;

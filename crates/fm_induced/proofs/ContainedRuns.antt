@@ -1,6 +1,6 @@
 -- A completion of the generators of an ideal, and divisions by its members one after the other.
-use Rattle.std.proofs.Common.{ℕ, suc, ◌+◌, ◌≤◌, ◌≡◌, if◌then◌else◌, Bool, true, false, not, Option, Some, None, List, [], ◌∷◌, map, Result, Ok, Err, refl, sym, ap, ◌∙◌, subst, arith}
-use Rattle.std.specs.Prelude.{is_some, IsErr, IsErrAnd}
+use Rattle.std.proofs.Common.{ℕ, suc, ◌≤◌, ◌≡◌, if◌then◌else◌, Bool, true, false, not, Option, Some, List, [], ◌∷◌, map, Result, Ok, Err, sym, ap, ◌∙◌, subst, arith}
+use Rattle.std.specs.Prelude.{is_some}
 use Rattle.fm_complete.specs.Bases.{basis_value}
 use Rattle.fm_complete.specs.Completions.{Completion, completed}
 use Rattle.fm_complete.specs.Divisions as divisions
@@ -18,9 +18,8 @@ use Rattle.fm_term.specs.declared.vterm.VTerm.{VTerm}
 use Rattle.fm_term.specs.Falling.{head_of}
 use Rattle.fm_vec.specs.Vectors.{VectorValue}
 use Rattle.fm_run.specs.declared.stop.Stop.{Stop}
-use Rattle.fm_run.specs.declared.stop.Stop.TheVariants as stops
 use Rattle.fm_run.specs.Runs.{Ended, Work, Spends, Follows, ended_with, halt_of, ready, ◌>>=◌}
-use Rattle.fm_run.proofs.Calls.{row_goes, row_stops, wanted}
+use Rattle.fm_run.proofs.Calls.{row_goes, row_stops}
 use Rattle.fm_run.proofs.Following.{after_value, after_halt}
 use Rattle.fm_run.proofs.Parts.{came}
 use Rattle.fm_run.proofs.Spending.{next_spends, then_spends}

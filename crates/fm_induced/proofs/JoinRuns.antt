@@ -1,5 +1,5 @@
 -- Links one after another, from a graph on: how a turn ends.
-use Rattle.std.proofs.Common.{Vec, Global, ℕ, suc, ◌<◌, ◌≤◌, ◌≡◌, Option, Some, List, [], ◌∷◌, ◌++◌, length, Result, Ok, Err, refl, sym, ap, ◌∙◌, subst, arith}
+use Rattle.std.proofs.Common.{Vec, Global, ℕ, ◌<◌, ◌≤◌, ◌≡◌, Some, List, [], ◌∷◌, ◌++◌, length, Result, Ok, Err, refl, sym, ap, ◌∙◌, subst, arith}
 use Rattle.std.specs.Prelude.{IfErr, IfOk}
 use Rattle.std.proofs.lemmas.List.{map-append}
 use Rattle.fm_graphs.specs.Bounds.{twisted_matrix}
@@ -143,7 +143,7 @@ power_told r m b g same is result old h =
 
 -- units that were spent before a turn that goes on
 pub goes_on_earlier : (k : GraphValue) (old mid new : ℕ) (a : Result JoinTurn Stop) → mid ≤ old → IfOk a (GoesOn k mid new) → IfOk a (GoesOn k old new)
-goes_on_earlier k old mid new (Ok (Last x)) less h = tt
+goes_on_earlier k old mid new (Ok (Last x)) less h = h
 goes_on_earlier k old mid new (Ok (Again c)) less h = (let l = h.0 in omega (arith, l, less), h.1)
 goes_on_earlier k old mid new (Err e) less h = tt
 

@@ -1,9 +1,8 @@
 -- The matrix of an induced map, and its fibres, as runs.
-use Rattle.std.proofs.Common.{ℕ, ◌≡◌, IfOk, Result, Ok, Err, sym, ap, ◌∙◌, subst, arith}
+use Rattle.std.proofs.Common.{ℕ, ◌≡◌, IfOk, Result, Ok, Err, subst, arith}
 use Rattle.fm_algebra.specs.PolynomialMatrices.{matrix_transpose}
 use Rattle.fm_graphs.specs.Graphs as runs
 use Rattle.fm_graphs.specs.Graphs.{MatrixOf, Graph, inside_run, lifted}
-use Rattle.fm_graphs.specs.Bounds.{multiplied}
 use Rattle.fm_graphs.specs.Trims.{Preimage, preimage_run}
 use Rattle.fm_graphs.proofs.Sizes.{inside_spends}
 use Rattle.fm_graphs.proofs.Spending.{preimage_spends}

@@ -1,5 +1,5 @@
 -- Whether a map is onto, task by task.
-use Rattle.std.proofs.Common.{ℕ, ◌≡◌, List, [], Result, Ok, Err, sym, ap, ◌∙◌, subst, arith}
+use Rattle.std.proofs.Common.{ℕ, ◌≡◌, [], Result, Ok, Err, sym, subst, arith}
 use Rattle.fm_algebra.specs.PolynomialMatrices.{matrix_beside}
 use Rattle.fm_graphs.specs.Graphs as runs
 use Rattle.fm_graphs.specs.Graphs.{MatrixOf, Graph, all_inside, first_outside, graph_run, whole_run}

@@ -1,5 +1,5 @@
 -- Whether an induced map is onto: the program's answers, and the chain from [N | Phi] on the way.
-use Rattle.std.specs.Prelude.{ℕ, ◌<◌, [], Option, Some, option_map}
+use Rattle.std.specs.Prelude.{ℕ, ◌<◌, ◌≡◌, Some, option_map}
 use Rattle.fm_graphs.specs.Bounds.{twisted_matrix}
 use Rattle.fm_graphs.specs.Graphs.{MatrixOf, Graph, inside_run, whole_run}
 use Rattle.fm_graphs.specs.Graphs as runs
@@ -50,7 +50,17 @@ module _ (r : Ring) where
   abbrev pub settle_work : Graph r → plans.Joins r → Preimage r → runs.Outside → Work (Turn (plans.Joins r) (plans.Onto r))
   settle_work first c x o = inside_run r x.found c.graph >>= λ y. ready (join_settled r first c x o y)
 
--- a turn that is not the last has spent a unit, and its links are over the ring of the matrix of g, with as many rows
+-- the matrices are over r, and the links have as many rows as the first
+abbrev pub IsOntoOver : Ring → Onto → Type 0
+IsOntoOver r (At first links w before) = (first.matrix.ring ≡ r) × (AreColons first links.items × (w.ring ≡ r))
+IsOntoOver r (Never first links w proper) = (first.matrix.ring ≡ r) × (AreColons first links.items × (w.ring ≡ r))
+
+-- they are over the ring of the matrix of g, and the links have as many rows
+abbrev pub IsJoinedOver : GraphValue → Joined → Type 0
+IsJoinedOver g (Whole links w before) = AreColons g links.items × (w.ring ≡ g.matrix.ring)
+IsJoinedOver g (Stable links w proper) = AreColons g links.items × (w.ring ≡ g.matrix.ring)
+
+-- a turn that is not the last has spent a unit, and the links of each are over the ring of the matrix of g, with as many rows
 abbrev pub GoesOn : GraphValue → (old new : ℕ) → JoinTurn → Type 0
-GoesOn g old new (Last x) = Unit {0}
+GoesOn g old new (Last x) = IsJoinedOver g x
 GoesOn g old new (Again c) = (new < old) × AreColons g c.links.items

@@ -1,7 +1,7 @@
 // What an induced map sends to zero.
 ghost use Rattle.std.specs.Prelude.{IfOk, length, ◌≡◌, ◌≤◌};
 ghost use Rattle.fm_algebra.specs.PolynomialMatrices.{GeneratesPreimage};
-ghost use Rattle.fm_induced.specs.Fibres.{fibre_value};
+ghost use Rattle.fm_induced.specs.Fibres.{IsFibreOver, fibre_value};
 ghost use Rattle.fm_mat.specs.Matrices.{matrix_meaning};
 ghost use Rattle.fm_plan.specs.Following.{FollowsPlan};
 ghost use Rattle.fm_plan.specs.Queries.{fibre_work};
@@ -40,6 +40,7 @@ pub fn is_one_to_one(
     requires count { length phi.now.columns ≡ source.now.matrix.rows }
     ensures follows { let r = source.now.matrix.ring in FollowsPlan (fibre_value r) result work.old work.new
         (task sides.Alone names.One 0 (fibre_work r (matrix_meaning r phi.now) (matrix_meaning r k.now) (graph_meaning r source.now)) work.old) }
+    ensures over { IfOk result (IsFibreOver source.now.matrix.ring (length source.now.matrix.columns)) }
 {
     let task = Task {
         side: Side::Alone,
@@ -64,6 +65,7 @@ fn fibre_of(
     requires count { length phi.now.columns ≡ source.now.matrix.rows }
     ensures follows { let r = source.now.matrix.ring in Follows (fibre_value r) result work.old work.new
         (fibre_work r (matrix_meaning r phi.now) (matrix_meaning r k.now) (graph_meaning r source.now) work.old) }
+    ensures over { IfOk result (IsFibreOver source.now.matrix.ring (length source.now.matrix.columns)) }
 {
     let fibre = preimage(alloc, phi, k, work)?;
     let inside = inside_of(alloc, fibre.generators().found(), source, work)?;

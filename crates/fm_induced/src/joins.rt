@@ -2,7 +2,7 @@
 ghost use Rattle.std.specs.Prelude.{IfErr, IfOk, Some, [], length, ◌++◌, ◌<◌, ◌^◌, ◌∷◌, ◌≡◌, ◌≤◌, ℕ};
 ghost use Rattle.fm_algebra.specs.PolynomialMatrices.{matrix_beside};
 ghost use Rattle.fm_graphs.specs.Graphs as runs;
-ghost use Rattle.fm_induced.specs.Joins.{GoesOn, beginning_value, joined_value, joins_value, link_work, settle_work, turn_value};
+ghost use Rattle.fm_induced.specs.Joins.{GoesOn, IsJoinedOver, beginning_value, joined_value, joins_value, link_work, settle_work, turn_value};
 ghost use Rattle.fm_mat.specs.Matrices.{AreColumns, columns_meaning, matrix_meaning};
 ghost use Rattle.fm_plan.specs.Following.{FollowsPlan};
 ghost use Rattle.fm_plan.specs.Queries as plans;
@@ -112,6 +112,7 @@ pub(crate) fn joins_of(
     ensures follows { let r = first.now.matrix.ring in FollowsPlan (joined_value r first.now) result work.old work.new
         (repeated (out_of_units sides.Alone names.Onto) (plans.join_turn r (matrix_meaning r u.now) (graph_meaning r first.now))
         (record { links = []; graph = graph_meaning r first.now; proper = outside_value proper }) work.old) }
+    ensures over { IfOk result (IsJoinedOver first.now) }
 {
     let mut c = Joins {
         links: Vec::new(alloc),
@@ -178,6 +179,9 @@ fn next_join(
 fn reached(first: &Graph, c: Joins, x: Preimage, columns: Vec<Column>) -> Result<JoinTurn, Stop>
     requires columns { AreColumns first.now.matrix.ring (length x.generators.graph.matrix.columns) columns.items }
     requires few { length columns.items < 2 ^ 32 }
+    requires links { AreColons first.now c.links.items }
+    requires ring { x.generators.graph.matrix.ring ≡ first.now.matrix.ring }
+    requires rows { x.generators.graph.matrix.rows ≡ first.now.matrix.rows }
     ensures value { let r = first.now.matrix.ring in let h = graph_meaning r x.generators.graph in IfOk result (λ t. turn_value r first.now t
         ≡ last (plans.onto_at (graph_meaning r first.now) (preimages_meaning r c.links.items ++ preimage_meaning r x ∷ [])
         (record { rows = runs.width r h; columns = columns_meaning r columns.items }) (Some (outside_value c.proper)))) }

@@ -9,7 +9,7 @@ ghost use Rattle.fm_run.specs.Runs.{Follows};
 ghost use Rattle.fm_run.specs.declared.task.Name.TheVariants as names;
 ghost use Rattle.fm_run.specs.declared.task.Side.TheVariants as sides;
 ghost use Rattle.fm_syz.specs.GraphValues.{graph_meaning};
-ghost use Rattle.fm_syz.specs.Insides.{IsInsideOf, inside_value};
+ghost use Rattle.fm_syz.specs.Insides.{HasColumns, IsInsideOf, inside_value};
 
 use fm_lift::lift_of_product;
 use fm_mat::Matrix;
@@ -71,6 +71,7 @@ pub fn is_zero(alloc: Global, phi: &Matrix, k: &Graph, work: &mut Work) -> Resul
     requires rows { phi.now.rows ≡ k.now.matrix.rows }
     ensures follows { let r = k.now.matrix.ring in FollowsPlan (inside_value r) result work.old work.new
         (task sides.Alone names.Null 0 (inside_run r (matrix_meaning r phi.now) (graph_meaning r k.now)) work.old) }
+    ensures columns { IfOk result (HasColumns k.now.matrix.ring (length k.now.matrix.columns)) }
     ensures decides { let r = k.now.matrix.ring in IfOk result (IsInsideOf r (matrix_meaning r k.now.matrix) (matrix_meaning r phi.now)) }
 {
     let task = Task {

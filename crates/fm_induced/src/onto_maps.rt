@@ -1,6 +1,6 @@
 // Whether an induced map is onto.
-ghost use Rattle.std.specs.Prelude.{length, ◌≡◌, ◌≤◌};
-ghost use Rattle.fm_induced.specs.Joins.{joined_value, onto_value};
+ghost use Rattle.std.specs.Prelude.{IfOk, length, ◌≡◌, ◌≤◌};
+ghost use Rattle.fm_induced.specs.Joins.{IsJoinedOver, IsOntoOver, joined_value, onto_value};
 ghost use Rattle.fm_mat.specs.Matrices.{matrix_meaning};
 ghost use Rattle.fm_plan.specs.Following.{FollowsPlan};
 ghost use Rattle.fm_plan.specs.Queries.{onto_plan};
@@ -49,6 +49,7 @@ pub fn is_onto(
     requires square { length u.now.columns ≡ n.now.rows }
     ensures follows { let r = n.now.ring in FollowsPlan (onto_value r) result work.old work.new
         (onto_plan r (matrix_meaning r n.now) (matrix_meaning r phi.now) (matrix_meaning r u.now) work.old) }
+    ensures over { IfOk result (IsOntoOver n.now.ring) }
 {
     let beginning = in_task(onto_task(0), begin(alloc, n, phi, work))?;
     let first = beginning.first;
@@ -71,7 +72,9 @@ pub fn is_onto(
 
 // The answer with the graph from which the chain began.
 fn with_first(first: Graph, joined: Joined) -> Onto
-    ensures { (r : Ring) → onto_value r result ≡ joined_value r first joined }
+    requires over { IsJoinedOver first joined }
+    ensures value { (r : Ring) → onto_value r result ≡ joined_value r first joined }
+    ensures over { IsOntoOver first.matrix.ring result }
 {
     match joined {
         Joined::Whole { links, w, before } => Onto::At {

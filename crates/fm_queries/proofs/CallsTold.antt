@@ -1,5 +1,5 @@
 -- Calls on the graph of the stable kernel, in the ring of the query.
-use Rattle.std.proofs.Common.{ℕ, ◌≡◌, ◌∙◌, List, Result, subst}
+use Rattle.std.proofs.Common.{ℕ, ◌≡◌, ◌∙◌, List, Result, length, subst}
 use Rattle.fm_poly.specs.declared.ring.Ring.{Ring}
 use Rattle.fm_poly.specs.declared.term.Term.{Term}
 use Rattle.fm_poly.specs.Polys.{meaning}
@@ -14,11 +14,14 @@ use Rattle.fm_plan.specs.Tasks.{task}
 use Rattle.fm_plan.specs.Following.{FollowsPlan}
 use Rattle.fm_syz.specs.GraphValues.{GraphValue, graph_meaning}
 use Rattle.fm_syz.specs.GeneratorValues.{PreimageValue, preimage_meaning}
-use Rattle.fm_syz.specs.Insides.{inside_value}
+use Rattle.fm_syz.specs.Insides.{HasColumns, inside_value}
 use Rattle.fm_syz.specs.declared.inside.Inside.{Inside}
 use Rattle.fm_support.specs.Annihilators.{annihilator_work}
 use Rattle.fm_support.specs.Inverting.{inverted_value, invert_plan}
 use Rattle.fm_support.specs.declared.inverting.Inverted.{Inverted}
+
+pub columns_told : (r : Ring) (g h : GraphValue) → h ≡ g → g.matrix.ring ≡ r → (x : Inside) → HasColumns h.matrix.ring (length h.matrix.columns) x → HasColumns r (length g.matrix.columns) x
+columns_told r g h same ring x k = subst (λ (s : Ring). HasColumns s (length g.matrix.columns) x) ring (subst (λ (h : GraphValue). HasColumns h.matrix.ring (length h.matrix.columns) x) same k)
 
 module _ (r : Ring) (g h : GraphValue) (same : h ≡ g) (ring : g.matrix.ring ≡ r) (old new : ℕ) where
   pub whole_told : (result : Result Inside Stop) → (let s = h.matrix.ring in Follows (inside_value s) result old new (whole_run s (graph_meaning s h) old))

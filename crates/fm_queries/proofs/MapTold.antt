@@ -1,5 +1,5 @@
 -- The calls of the query `map`, in its ring.
-use Rattle.std.proofs.Common.{ℕ, ◌≡◌, ◌∷◌, IfOk, List, Result, take, sym, ap, ◌∙◌, subst}
+use Rattle.std.proofs.Common.{ℕ, ◌≡◌, ◌∷◌, IfOk, List, Result, length, take, sym, ap, ◌∙◌, subst}
 use Rattle.fm_algebra.specs.PolynomialMatrices.{matrix_unit}
 use Rattle.fm_graphs.specs.Graphs.{MatrixOf, Inside, inside_run}
 use Rattle.fm_graphs.specs.Trims.{Preimage}
@@ -18,7 +18,7 @@ use Rattle.fm_syz.specs.GraphValues.{GraphValue, graph_meaning}
 use Rattle.fm_syz.specs.Insides.{inside_value}
 use Rattle.fm_syz.specs.declared.inside.Inside as program
 use Rattle.fm_lift.specs.Lifts.{AreMatricesOver, after_the_first, matrices_meaning}
-use Rattle.fm_induced.specs.Fibres.{fibre_value}
+use Rattle.fm_induced.specs.Fibres.{IsFibreOver, fibre_value}
 use Rattle.fm_induced.specs.Joins.{onto_value}
 use Rattle.fm_induced.specs.declared.fibres.Fibre.{Fibre}
 use Rattle.fm_induced.specs.declared.onto_maps.Onto as covers
@@ -96,6 +96,9 @@ module _ (r : Ring) (m : MatrixValue) (k k' : GraphValue) (kernel : k' ≡ k) (r
       subst (λ (s : Ring). FollowsPlan (fibre_value s) result old new (task Alone names.One 0 (fibre_work s (matrix_meaning s m) (matrix_meaning s K) (graph_meaning s k)) old)) ring
       (subst (λ (v : GraphValue). let s = v.matrix.ring in FollowsPlan (fibre_value s) result old new (task Alone names.One 0 (fibre_work s (matrix_meaning s m) (matrix_meaning s K) (graph_meaning s v)) old)) kernel
       (subst (λ (v : MatrixValue). let s = k'.matrix.ring in FollowsPlan (fibre_value s) result old new (task Alone names.One 0 (fibre_work s (matrix_meaning s m) (matrix_meaning s v) (graph_meaning s k')) old)) same h))
+
+pub fibre_told : (r : Ring) (g h : GraphValue) → h ≡ g → g.matrix.ring ≡ r → (x : Fibre) → IsFibreOver h.matrix.ring (length h.matrix.columns) x → IsFibreOver r (length g.matrix.columns) x
+fibre_told r g h same ring x k = subst (λ (s : Ring). IsFibreOver s (length g.matrix.columns) x) ring (subst (λ (h : GraphValue). IsFibreOver h.matrix.ring (length h.matrix.columns) x) same k)
 
 pub onto_told : (r : Ring) (n n' phi u u' : MatrixValue) → n' ≡ n → u' ≡ u → n.ring ≡ r → (result : Result covers.Onto Stopped) (old new : ℕ)
     → (let s = n'.ring in FollowsPlan (onto_value s) result old new (onto_plan s (matrix_meaning s n') (matrix_meaning s phi) (matrix_meaning s u') old))

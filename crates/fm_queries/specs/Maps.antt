@@ -1,13 +1,13 @@
 -- What the program of the query on maps finds, as what its plan finds.
-use Rattle.std.specs.Prelude.{◌≡◌, ℕ}
+use Rattle.std.specs.Prelude.{◌≡◌, ℕ, length}
 use Rattle.fm_ext.specs.Exts.{differentials, ring_of}
 use Rattle.fm_limit.specs.Facts.{ColumnsInImage}
 use Rattle.fm_limit.specs.ResolvedIdeal.{IsResolutionOf, row}
 use Rattle.fm_resolve.specs.Resolutions.{ResolutionValue}
 use Rattle.fm_graphs.specs.Graphs as runs
 use Rattle.fm_graphs.specs.Trims as trims
-use Rattle.fm_induced.specs.Fibres.{fibre_value}
-use Rattle.fm_induced.specs.Joins.{onto_value}
+use Rattle.fm_induced.specs.Fibres.{IsFibreOver, fibre_value}
+use Rattle.fm_induced.specs.Joins.{IsOntoOver, onto_value}
 use Rattle.fm_lift.specs.Lifts.{AreMatricesOver, matrices_meaning}
 use Rattle.fm_mat.specs.Matrices.{matrix_meaning}
 use Rattle.fm_plan.specs.Queries as plans
@@ -18,8 +18,8 @@ use Rattle.fm_poly.specs.declared.ring.Ring.{Ring}
 use Rattle.fm_run.specs.Runs.{◌>>=◌}
 use Rattle.fm_run.specs.declared.task.Name.TheVariants as names
 use Rattle.fm_run.specs.declared.task.Side.TheVariants.{Alone}
-use Rattle.fm_syz.specs.Insides.{inside_value}
-use Rattle.fm_queries.specs.Bases.{BaseValue, base_meaning}
+use Rattle.fm_syz.specs.Insides.{HasColumns, inside_value}
+use Rattle.fm_queries.specs.Bases.{BaseValue, base_meaning, stable_graph}
 use Rattle.fm_queries.specs.declared.comparing.Compared.{Compared}
 use Rattle.fm_queries.specs.declared.map.Between.{Between}
 use Rattle.fm_queries.specs.declared.map.Map.{Map}
@@ -50,14 +50,26 @@ pub record AreNested (r : Ring) (i : ℕ) (x y : ResolutionValue) : Type 0 where
   pub resolves_inner : IsResolutionOf r.prime r.vars inner i (differentials r y)
   pub contained : ColumnsInImage r.prime r.vars (row r.prime r.vars outer) (row r.prime r.vars inner)
 
--- the matrices of x are over r
-pub record IsBetweenOver (r : Ring) (x : Between) : Type 0 where
+-- what compares the modules of b and c is over r, and its solutions are those by their stable kernels
+pub record IsComparedOver (r : Ring) (b c : BaseValue) (x : Compared) : Type 0 where
+  pub null : HasColumns r (length (stable_graph c).matrix.columns) x.null
+  pub one : IsFibreOver r (length (stable_graph b).matrix.columns) x.fibre
+  pub onto : IsOntoOver r x.onto
+
+-- the matrices of a map between the modules of b and c are over r, and what compares them
+pub record IsBetweenOver (r : Ring) (b c : BaseValue) (x : Between) : Type 0 where
   pub lambda : AreMatricesOver r x.lambda.items
   pub phi : x.phi.ring ≡ r
+  pub null : HasColumns r (length (stable_graph c).matrix.columns) x.null
+  pub one : IsFibreOver r (length (stable_graph b).matrix.columns) x.fibre
+  pub onto : IsOntoOver r x.onto
 
--- the modules and the matrices of x are over r
+-- the modules and the matrices of x are over r, and what compares them
 pub record IsMapOver (r : Ring) (x : Map) : Type 0 where
   pub source : ring_of x.source.ext ≡ r
   pub target : ring_of x.target.ext ≡ r
   pub lambda : AreMatricesOver r x.lambda.items
   pub phi : x.phi.ring ≡ r
+  pub null : HasColumns r (length (stable_graph x.target).matrix.columns) x.null
+  pub one : IsFibreOver r (length (stable_graph x.source).matrix.columns) x.fibre
+  pub onto : IsOntoOver r x.onto

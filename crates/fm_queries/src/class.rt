@@ -1,7 +1,7 @@
 // Whether a class is zero in a local cohomology module.
 ghost use Rattle.std.specs.Prelude.{IfErr, IfOk, None, length, map, suc, take, ◌+◌, ◌<◌, ◌^◌, ◌≡◌, ◌≤◌, ℕ};
 ghost use Rattle.fm_chain.specs.Chains.{member_graphs};
-ghost use Rattle.fm_chain.specs.Stages.{killed_value};
+ghost use Rattle.fm_chain.specs.Stages.{IsKilledOver, killed_value};
 ghost use Rattle.fm_ext.specs.Exts.{cocycles_matrix, differentials, ring_of};
 ghost use Rattle.fm_limit.specs.ResolvedIdeal.{matrix_at};
 ghost use Rattle.fm_mat.specs.Matrices.{column_meaning};
@@ -50,6 +50,9 @@ pub fn decide_class(
     ensures follows { let fs = column_meaning ring generators.now in let c = column_meaning ring z.now in
         FollowsQuery (class_value ring degree fs e c) result work.old work.new (plan ring (ask_class degree fs e c) work.old) }
     ensures ring { IfOk result (λ x. ring_of x.base.ext ≡ ring) }
+    ensures coordinates { IfOk result (λ x. AreOver ring x.coordinates.items) }
+    ensures few { IfOk result (λ x. length x.coordinates.items < 2 ^ 32) }
+    ensures killed { IfOk result (λ x. IsKilledOver ring x.killed) }
 {
     let resolution = resolve(alloc, Side::Alone, ring, generators, degree, work)?;
     test_in(alloc, &resolution, degree, e, z)?;
@@ -97,8 +100,9 @@ fn killed_in(
 ) -> Result<Killed, Stopped>
     requires over { AreOver (ring_of base.now.ext) w.now }
     requires length { length w.now ≡ length (cocycles_matrix base.now.ext).columns }
-    ensures { let r = ring_of base.now.ext in FollowsPlan (killed_value r) result work.old work.new
+    ensures follows { let r = ring_of base.now.ext in FollowsPlan (killed_value r) result work.old work.new
         (stages r e (column_meaning r w.now) 0 None (chain_graphs r (base_meaning r base.now)) work.old) }
+    ensures over { IfOk result (IsKilledOver (ring_of base.now.ext)) }
 {
     let first = Task {
         side: Side::Alone,

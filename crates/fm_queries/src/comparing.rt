@@ -1,5 +1,5 @@
 // Whether an induced map is zero, one to one and onto.
-ghost use Rattle.std.specs.Prelude.{length, ◌≡◌, ◌≤◌};
+ghost use Rattle.std.specs.Prelude.{IfOk, length, ◌≡◌, ◌≤◌};
 ghost use Rattle.fm_ext.specs.Exts.{cocycles_matrix, ring_of};
 ghost use Rattle.fm_graphs.specs.Graphs as runs;
 ghost use Rattle.fm_graphs.specs.Trims as trims;
@@ -8,7 +8,7 @@ ghost use Rattle.fm_plan.specs.Following.{FollowsPlan};
 ghost use Rattle.fm_plan.specs.Queries as plans;
 ghost use Rattle.fm_plan.specs.Queries.{compared};
 ghost use Rattle.fm_queries.specs.Bases.{base_meaning};
-ghost use Rattle.fm_queries.specs.Maps.{compared_value};
+ghost use Rattle.fm_queries.specs.Maps.{IsComparedOver, compared_value};
 
 use crate::base::Base;
 use fm_induced::{Fibre, Onto, is_one_to_one, is_onto, is_zero};
@@ -43,6 +43,7 @@ pub(crate) fn compare(
         (answer : runs.Inside r → trims.Preimage r × runs.Inside r → plans.Onto r → plans.Found r)
         → FollowsPlan (compared_value r answer) result work.old work.new
         (compared r (base_meaning r source.now) (base_meaning r target.now) (matrix_meaning r phi.now) answer work.old) }
+    ensures over { IfOk result (IsComparedOver (ring_of source.now.ext) source.now target.now) }
 {
     let kernel = target.stable_kernel();
     let null = is_zero(alloc, phi, kernel, work)?;

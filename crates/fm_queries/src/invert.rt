@@ -5,7 +5,9 @@ ghost use Rattle.fm_mat.specs.Matrices.{column_meaning};
 ghost use Rattle.fm_plan.specs.Following.{FollowsPlan};
 ghost use Rattle.fm_plan.specs.Queries.{ask_invert, plan};
 ghost use Rattle.fm_poly.specs.Polys.{meaning};
+ghost use Rattle.fm_queries.specs.Bases.{stable_graph};
 ghost use Rattle.fm_queries.specs.Founds.{invert_value};
+ghost use Rattle.fm_support.specs.Inverting.{IsInvertedOver};
 ghost use Rattle.fm_vec.specs.Components.{AreOver};
 
 use crate::base::{Base, compute_base};
@@ -39,6 +41,7 @@ pub fn decide_inverting(
     ensures follows { let fs = column_meaning ring generators.now in let g = meaning ring f.now.terms in
         FollowsPlan (invert_value ring degree fs g) result work.old work.new (plan ring (ask_invert degree fs g) work.old) }
     ensures ring { IfOk result (λ x. ring_of x.base.ext ≡ ring) }
+    ensures over { IfOk result (λ x. IsInvertedOver (stable_graph x.base) x.inverted) }
 {
     let base = compute_base(alloc, Side::Alone, ring, generators, degree, work)?;
     let inverted = invert(alloc, base.stable_kernel(), f, work)?;

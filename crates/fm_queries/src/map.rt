@@ -128,7 +128,7 @@ fn matrices_between(
     ensures follows { let r = ring_of source.now.ext in (fs gs : Ideal r)
         → FollowsPlan (between_value r degree fs gs source.now target.now) result work.old work.new
         (mapped r degree fs gs (base_meaning r source.now) (base_meaning r target.now) work.old) }
-    ensures over { IfOk result (IsBetweenOver (ring_of source.now.ext)) }
+    ensures over { IfOk result (IsBetweenOver (ring_of source.now.ext) source.now target.now) }
 {
     let lambda = lambda_of(alloc, source, target, degree, work)?;
     let phi = phi_of(alloc, source, target, matrix_of(&lambda, degree), work)?;

@@ -4,7 +4,9 @@ ghost use Rattle.fm_ext.specs.Exts.{ring_of};
 ghost use Rattle.fm_mat.specs.Matrices.{column_meaning};
 ghost use Rattle.fm_plan.specs.Following.{FollowsPlan};
 ghost use Rattle.fm_plan.specs.Queries.{ask_zero, plan};
+ghost use Rattle.fm_queries.specs.Bases.{stable_graph};
 ghost use Rattle.fm_queries.specs.Founds.{zero_value};
+ghost use Rattle.fm_syz.specs.Insides.{HasColumns};
 ghost use Rattle.fm_vec.specs.Components.{AreOver};
 
 use crate::base::{Base, compute_base};
@@ -36,6 +38,7 @@ pub fn decide_zero(
     ensures follows { let fs = column_meaning ring generators.now in FollowsPlan (zero_value ring degree fs) result work.old work.new
         (plan ring (ask_zero degree fs) work.old) }
     ensures ring { IfOk result (λ x. ring_of x.base.ext ≡ ring) }
+    ensures columns { IfOk result (λ x. HasColumns ring (length (stable_graph x.base).matrix.columns) x.whole) }
 {
     let base = compute_base(alloc, Side::Alone, ring, generators, degree, work)?;
     let task = Task {

@@ -10,7 +10,7 @@ ghost use Rattle.fm_run.specs.Runs.{Follows};
 ghost use Rattle.fm_vec.specs.Components.{AreOver};
 ghost use Rattle.fm_graphs.specs.Graphs as runs;
 ghost use Rattle.fm_syz.specs.GraphValues.{graph_meaning};
-ghost use Rattle.fm_syz.specs.Insides.{inside_value};
+ghost use Rattle.fm_syz.specs.Insides.{HasColumns, inside_value};
 ghost use Rattle.fm_algebra.specs.PolynomialMatrices.{matrix_column};
 ghost use Rattle.fm_limit.specs.ResolvedIdeal.{row};
 
@@ -45,6 +45,7 @@ pub fn decide_member(
     ensures follows { let fs = column_meaning ring generators.now in let g = meaning ring f.now.terms in
         FollowsPlan (membership_value ring fs g) result work.old work.new (plan ring (ask_member fs g) work.old) }
     ensures ring { IfOk result (λ m. m.first.matrix.ring ≡ ring) }
+    ensures columns { IfOk result (λ m. HasColumns ring (length m.first.matrix.columns) m.inside) }
     ensures decides { IfOk result (IsMembership ring (column_meaning ring generators.now) (meaning ring f.now.terms)) }
 {
     let first = in_task(
@@ -79,6 +80,7 @@ fn member_test(
     requires polynomial { f.now.ring ≡ ring }
     ensures follows { Follows (inside_value ring) result work.old work.new
         (runs.inside_run ring (matrix_column ring.prime ring.vars (meaning ring f.now.terms ∷ [])) (graph_meaning ring first.now) work.old) }
+    ensures columns { IfOk result (HasColumns ring (length first.now.matrix.columns)) }
 {
     let mut entries = Vec::new(alloc);
     entries.push(f.copy(alloc)?)?;

@@ -1,11 +1,10 @@
 -- The row of an annihilator, for the matrices that were built.
 use Rattle.std.proofs.Common.{ℕ, ◌≡◌, ◌↔◌, [], ◌∷◌, length, IfOk, Result, Ok, Err, sym, ap, ◌∙◌, subst}
-use Rattle.fm_algebra.specs.Polynomials.{Polynomial}
 use Rattle.fm_algebra.specs.PolynomialMatrices.{HasShape, InImage, GeneratesPreimage, matrix_scalar}
 use Rattle.fm_graphs.specs.Graphs.{MatrixOf}
 use Rattle.fm_graphs.specs.Trims.{preimage_run}
-use Rattle.fm_limit.specs.Facts.{ColumnsInImage, unit_column, diagonal_blocks, first_entries}
-use Rattle.fm_limit.specs.ResolvedIdeal.{InIdeal, row}
+use Rattle.fm_limit.specs.Facts.{ColumnsInImage, unit_column, diagonal_blocks}
+use Rattle.fm_limit.specs.ResolvedIdeal.{InIdeal}
 use Rattle.fm_limit.proofs.AnnihilatorRows.{annihilator_fact, entries_row}
 use Rattle.fm_mat.specs.Matrices.{MatrixValue, matrix_meaning}
 use Rattle.fm_poly.specs.declared.ring.Ring.{Ring}

@@ -1,5 +1,5 @@
 -- Colons one after another: the newest one, and how a turn ends.
-use Rattle.std.proofs.Common.{Vec, Global, ℕ, suc, ◌+◌, ◌-◌, ◌<◌, ◌≤◌, ◌≡◌, Option, Some, None, List, [], ◌∷◌, ◌++◌, map, length, Result, Ok, Err, refl, sym, ap, ◌∙◌, subst, arith}
+use Rattle.std.proofs.Common.{Vec, Global, ℕ, suc, ◌-◌, ◌<◌, ◌≤◌, ◌≡◌, Option, Some, None, List, [], ◌∷◌, ◌++◌, length, Result, Ok, Err, refl, sym, ap, ◌∙◌, subst, arith}
 use Rattle.std.specs.Prelude.{IfOk, slice_get}
 use Rattle.std.proofs.lemmas.List.{map-append}
 use Rattle.fm_algebra.specs.Polynomials.{Polynomial}
@@ -15,12 +15,12 @@ use Rattle.fm_plan.specs.Queries as plans
 use Rattle.fm_plan.specs.Queries.{colon_next, colon_settled}
 use Rattle.fm_poly.specs.declared.ring.Ring.{Ring}
 use Rattle.fm_run.specs.declared.stop.Stop.{Stop}
-use Rattle.fm_run.specs.Runs.{Ended, Spends, Work, Follows, FollowsBy, Halts, halt_of, ready, ◌>>=◌}
+use Rattle.fm_run.specs.Runs.{Spends, Work, Follows, Halts, halt_of, ready, ◌>>=◌}
 use Rattle.fm_run.specs.Turns.{Turn, last, again}
 use Rattle.fm_run.proofs.Calls.{row_goes, row_stops}
 use Rattle.fm_run.proofs.Counting.{left_of}
 use Rattle.fm_run.proofs.Spending.{then_spends}
-use Rattle.fm_support.specs.Inverting.{AreColons, newest, colons_value, colon_work, GoesOn, settle_work, turn_value, preimages_meaning, outside_value}
+use Rattle.fm_support.specs.Inverting.{AreColons, newest, colon_work, GoesOn, settle_work, preimages_meaning}
 use Rattle.fm_support.proofs.ScalarRuns.{scalar_at}
 use Rattle.fm_poly.specs.declared.term.Term.{Term}
 use Rattle.fm_poly.specs.Polys.{meaning}
@@ -174,6 +174,6 @@ whole_told r g g' eg ring result old new h =
 
 -- units that were spent before a turn that goes on
 pub goes_on_earlier : (k : GraphValue) (old mid new : ℕ) (a : Result ColonTurn Stop) → mid ≤ old → IfOk a (GoesOn k mid new) → IfOk a (GoesOn k old new)
-goes_on_earlier k old mid new (Ok (Last x)) less h = tt
+goes_on_earlier k old mid new (Ok (Last x)) less h = h
 goes_on_earlier k old mid new (Ok (Again c)) less h = (let l = h.0 in omega (arith, l, less), h.1)
 goes_on_earlier k old mid new (Err e) less h = tt

@@ -1,5 +1,5 @@
 -- Inverting a polynomial, task by task.
-use Rattle.std.proofs.Common.{ℕ, ◌≡◌, List, [], Result, Ok, Err, sym, ap, ◌∙◌, subst, arith}
+use Rattle.std.proofs.Common.{ℕ, ◌≡◌, List, [], Result, Ok, Err, sym, subst, arith}
 use Rattle.fm_algebra.specs.Polynomials.{Polynomial}
 use Rattle.fm_graphs.specs.Graphs as runs
 use Rattle.fm_graphs.specs.Graphs.{Graph, all_inside, first_outside, whole_run}
@@ -17,7 +17,7 @@ use Rattle.fm_run.specs.Runs.{Spends, ◌>>=◌}
 use Rattle.fm_run.specs.Turns.{repeated}
 use Rattle.fm_run.proofs.Calls.{row_goes, row_stops}
 use Rattle.fm_run.proofs.Spending.{then_spends, turns_spend}
-use Rattle.fm_support.specs.Inverting.{inverted_value, coloned_value, invert_plan, outside_value}
+use Rattle.fm_support.specs.Inverting.{inverted_value, coloned_value, invert_plan}
 use Rattle.fm_support.specs.Powers.{power_work}
 use Rattle.fm_support.specs.declared.colons.Coloned.{Coloned}
 use Rattle.fm_support.specs.declared.inverting.Inverted.{Inverted}

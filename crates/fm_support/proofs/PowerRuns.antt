@@ -1,5 +1,5 @@
 -- Powers of a polynomial as runs.
-use Rattle.std.proofs.Common.{Option, Result, ℕ, zero, suc, ◌<◌, ◌≡◌, List, ◌⊎◌, inl, inr, Bool, true, false, Ok, Err, refl, sym, ap, ◌∙◌, subst, arith}
+use Rattle.std.proofs.Common.{Option, Result, ℕ, zero, suc, ◌≡◌, List, ◌⊎◌, inl, inr, Bool, true, false, Ok, Err, refl, sym, ap, ◌∙◌, subst, arith}
 use native.Mathlib.Decide.{dec_lt}
 use Rattle.fm_algebra.specs.Polynomials.{Polynomial, polynomial_product, polynomial_power}
 use Rattle.fm_mat.specs.Bounds.{product_fits}

@@ -1,10 +1,8 @@
 -- Multiples of the unit matrix through a graph.
-use Rattle.std.proofs.Common.{ℕ, ◌≡◌, List, Result, sym, ap, ◌∙◌, subst}
+use Rattle.std.proofs.Common.{ℕ, ◌≡◌, List, Result, ap, ◌∙◌, subst}
 use Rattle.fm_algebra.specs.Polynomials.{Polynomial}
 use Rattle.fm_algebra.specs.PolynomialMatrices.{matrix_scalar}
 use Rattle.fm_graphs.specs.Graphs.{Graph, inside_run, lifted}
-use Rattle.fm_graphs.specs.Listing.{VectorOf}
-use Rattle.fm_graphs.specs.Trims.{Preimage, preimage_run}
 use Rattle.fm_mat.specs.Matrices.{MatrixValue, columns_meaning, matrix_meaning}
 use Rattle.fm_poly.specs.declared.ring.Ring.{Ring}
 use Rattle.fm_poly.specs.declared.term.Term.{Term}
@@ -12,7 +10,6 @@ use Rattle.fm_poly.specs.Polys.{meaning}
 use Rattle.fm_run.specs.declared.stop.Stop.{Stop}
 use Rattle.fm_run.specs.Runs.{Follows}
 use Rattle.fm_support.specs.Powers.{scalar_lift}
-use Rattle.fm_syz.specs.GeneratorValues.{PreimageValue, preimage_meaning}
 use Rattle.fm_syz.specs.GraphValues.{GraphValue, graph_meaning}
 use Rattle.fm_syz.specs.Insides.{inside_value}
 use Rattle.fm_syz.specs.declared.inside.Inside.{Inside}

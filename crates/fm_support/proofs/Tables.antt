@@ -1,5 +1,5 @@
 -- Tables of entries, column by column.
-use Rattle.std.proofs.Common.{mul-zero, ℕ, zero as nought, suc, ◌+◌, ◌*◌, ◌/◌, ◌%◌, ◌<◌, ◌≡◌, cond, eqb, List, [], ◌∷◌, ◌++◌, length, map, get_or, refl, sym, ap, ◌∙◌, subst, arith}
+use Rattle.std.proofs.Common.{mul-zero, ℕ, zero as nought, suc, ◌*◌, ◌/◌, ◌%◌, ◌<◌, ◌≡◌, cond, eqb, List, [], ◌∷◌, length, get_or, sym, ap, ◌∙◌, subst, arith}
 use Rattle.std.proofs.lemmas.Bool.{ne_eqb}
 use Rattle.std.proofs.lemmas.Nat.{mod_below}
 use Rattle.fm_algebra.specs.Matrix.{component, entry, listed, table, scalar_matrix}

@@ -1,5 +1,5 @@
 -- Inverting a polynomial: the program's answers, and the part of the plan that begins with a graph of the stable kernel.
-use Rattle.std.specs.Prelude.{ℕ, suc, ◌<◌, ◌≡◌, List, [], ◌∷◌, map, Option, option_map}
+use Rattle.std.specs.Prelude.{ℕ, suc, ◌<◌, ◌≡◌, List, [], ◌∷◌, map, option_map}
 use Rattle.fm_algebra.specs.Polynomials.{Polynomial, polynomial_power}
 use Rattle.fm_algebra.specs.PolynomialMatrices.{matrix_scalar}
 use Rattle.fm_graphs.specs.Graphs.{Graph, MatrixOf, inside_run, whole_run}
@@ -80,7 +80,16 @@ abbrev pub AreColons : GraphValue → List PreimageValue → Type 0
 AreColons k [] = Unit {0}
 AreColons k (x ∷ xs) = (x.generators.graph.matrix.ring ≡ k.matrix.ring) × (x.generators.graph.matrix.rows ≡ k.matrix.rows) × AreColons k xs
 
--- a turn that is not the last has spent a unit, and its colons are of one shape
+-- the matrices are of the ring of k, and the colons have as many rows
+abbrev pub IsInvertedOver : GraphValue → Inverted → Type 0
+IsInvertedOver k (Power e w before) = w.ring ≡ k.matrix.ring
+IsInvertedOver k (Never colons w proper) = AreColons k colons.items × (w.ring ≡ k.matrix.ring)
+
+abbrev pub IsColonedOver : GraphValue → Coloned → Type 0
+IsColonedOver k (Whole e) = Unit {0}
+IsColonedOver k (Stable colons w proper) = AreColons k colons.items × (w.ring ≡ k.matrix.ring)
+
+-- a turn that is not the last has spent a unit, and the colons of each are of one shape
 abbrev pub GoesOn : GraphValue → (old new : ℕ) → ColonTurn → Type 0
-GoesOn k old new (Last x) = Unit {0}
+GoesOn k old new (Last x) = IsColonedOver k x
 GoesOn k old new (Again c) = (new < old) × AreColons k c.colons.items

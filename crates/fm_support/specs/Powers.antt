@@ -1,8 +1,8 @@
 -- The parts of the task `power`.
-use Rattle.std.specs.Prelude.{ℕ, suc, Option}
+use Rattle.std.specs.Prelude.{ℕ, suc}
 use Rattle.fm_algebra.specs.Polynomials.{Polynomial, polynomial_power}
 use Rattle.fm_algebra.specs.PolynomialMatrices.{matrix_scalar}
-use Rattle.fm_graphs.specs.Graphs.{MatrixOf, Graph, Outside, inside_run, lifted}
+use Rattle.fm_graphs.specs.Graphs.{MatrixOf, Graph, lifted}
 use Rattle.fm_mat.specs.Bounds.{product_fits}
 use Rattle.fm_plan.specs.Queries.{Inverted, by_power, power_run, before_power}
 use Rattle.fm_poly.specs.declared.ring.Ring.{Ring}

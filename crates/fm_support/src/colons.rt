@@ -10,7 +10,7 @@ ghost use Rattle.fm_run.specs.Turns.{repeated};
 ghost use Rattle.fm_run.specs.declared.task.Name.TheVariants as names;
 ghost use Rattle.fm_run.specs.declared.task.Side.TheVariants as sides;
 ghost use Rattle.fm_support.specs.Inverting as values;
-ghost use Rattle.fm_support.specs.Inverting.{AreColons, GoesOn, settle_work, colon_work, colons_value, coloned_value, outside_value, turn_value};
+ghost use Rattle.fm_support.specs.Inverting.{AreColons, GoesOn, IsColonedOver, settle_work, colon_work, colons_value, coloned_value, outside_value, turn_value};
 ghost use Rattle.fm_syz.specs.GeneratorValues.{preimage_meaning};
 ghost use Rattle.fm_syz.specs.GraphValues.{graph_meaning};
 
@@ -71,6 +71,7 @@ pub(crate) fn colons_of(
     ensures follows { let r = k.now.matrix.ring in FollowsPlan (coloned_value r) result work.old work.new
         (repeated (out_of_units sides.Alone names.Colon) (plans.colon_turn r (meaning r f.now.terms))
         (record { colons = []; graph = graph_meaning r k.now; proper = outside_value proper }) work.old) }
+    ensures over { IfOk result (IsColonedOver k.now) }
 {
     let mut c = Colons {
         colons: Vec::new(alloc),

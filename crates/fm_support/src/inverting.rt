@@ -11,7 +11,7 @@ ghost use Rattle.fm_poly.specs.Polys.{meaning};
 ghost use Rattle.fm_poly.specs.declared.ring.Ring.{Ring};
 ghost use Rattle.fm_plan.specs.Queries.{outside_of};
 ghost use Rattle.fm_run.specs.Runs.{Follows};
-ghost use Rattle.fm_support.specs.Inverting.{IsLeastPower, invert_plan, inverted_value, outside_value};
+ghost use Rattle.fm_support.specs.Inverting.{IsInvertedOver, IsLeastPower, invert_plan, inverted_value, outside_value};
 ghost use Rattle.fm_support.specs.Powers.{power_work, scalar_lift};
 ghost use Rattle.fm_syz.specs.GraphValues.{graph_meaning};
 ghost use Rattle.fm_syz.specs.Insides.{inside_value};
@@ -50,6 +50,7 @@ pub fn invert(alloc: Global, k: &Graph, f: &Poly, work: &mut Work) -> Result<Inv
     ensures follows { let r = k.now.matrix.ring in FollowsPlan (inverted_value r) result work.old work.new
         (invert_plan r (meaning r f.now.terms) (graph_meaning r k.now) work.old) }
     ensures least { let r = k.now.matrix.ring in IfOk result (IsLeastPower r (matrix_meaning r k.now.matrix) (meaning r f.now.terms)) }
+    ensures over { IfOk result (IsInvertedOver k.now) }
 {
     // What the graph tells: it is complete.
     let _matrix = k.matrix();
@@ -63,6 +64,7 @@ fn power_or_colons(alloc: Global, k: &Graph, f: &Poly, work: &mut Work) -> Resul
     requires few { k.now.matrix.ring.vars ≤ 8 }
     ensures follows { let r = k.now.matrix.ring in FollowsPlan (inverted_value r) result work.old work.new
         (invert_plan r (meaning r f.now.terms) (graph_meaning r k.now) work.old) }
+    ensures over { IfOk result (IsInvertedOver k.now) }
 {
     let proper = match in_task(colon_task(0), whole_of(alloc, k, work))? {
         Inside::All(_) => return by_power(alloc, k, f, 0, work),
@@ -87,6 +89,7 @@ fn by_power(
     requires few { g.now.matrix.ring.vars ≤ 8 }
     ensures follows { let r = g.now.matrix.ring in FollowsPlan (inverted_value r) result work.old work.new
         (task sides.Alone names.Power 0 (power_work r k (meaning r f.now.terms) (graph_meaning r g.now)) work.old) }
+    ensures over { IfOk result (IsInvertedOver g.now) }
 {
     let task = Task {
         side: Side::Alone,
@@ -109,6 +112,7 @@ fn least_power(
     requires few { g.now.matrix.ring.vars ≤ 8 }
     ensures follows { let r = g.now.matrix.ring in Follows (inverted_value r) result work.old work.new
         (power_work r k (meaning r f.now.terms) (graph_meaning r g.now) work.old) }
+    ensures over { IfOk result (IsInvertedOver g.now) }
 {
     if k == 0 {
         return zeroth(alloc, g, f, work);
@@ -123,6 +127,7 @@ fn zeroth(alloc: Global, g: &Graph, f: &Poly, work: &mut Work) -> Result<Inverte
     requires few { g.now.matrix.ring.vars ≤ 8 }
     ensures follows { let r = g.now.matrix.ring in Follows (inverted_value r) result work.old work.new
         (power_work r 0 (meaning r f.now.terms) (graph_meaning r g.now) work.old) }
+    ensures over { IfOk result (IsInvertedOver g.now) }
 {
     let top = power(alloc, f, 0)?;
     let w = lift_scalar(alloc, g, &top, work)?;
@@ -141,6 +146,7 @@ fn positive(alloc: Global, g: &Graph, f: &Poly, k: u32, work: &mut Work) -> Resu
     requires positive { 1 ≤ k }
     ensures follows { let r = g.now.matrix.ring in Follows (inverted_value r) result work.old work.new
         (power_work r k (meaning r f.now.terms) (graph_meaning r g.now) work.old) }
+    ensures over { IfOk result (IsInvertedOver g.now) }
 {
     let before = power(alloc, f, k - 1)?;
     let top = times(alloc, &before, f)?;
@@ -168,6 +174,7 @@ fn lift_scalar(alloc: Global, g: &Graph, h: &Poly, work: &mut Work) -> Result<Ma
     requires ring { h.now.ring ≡ g.now.matrix.ring }
     ensures follows { let r = g.now.matrix.ring in Follows (matrix_meaning r) result work.old work.new
         (scalar_lift r (meaning r h.now.terms) (graph_meaning r g.now) work.old) }
+    ensures ring { IfOk result (λ m. m.ring ≡ g.now.matrix.ring) }
 {
     let columns = scalar(alloc, h, g.rows())?;
     lift_columns(alloc, g, &columns, work)

@@ -11,13 +11,13 @@ use Rattle.fm_plan.specs.Base.{Links, linked, chain_work}
 use Rattle.fm_plan.specs.Results as plans
 use Rattle.fm_syz.specs.GraphValues.{GraphValue, graph_meaning}
 use Rattle.fm_syz.specs.GeneratorValues.{PreimageValue, preimage_meaning}
-use Rattle.fm_syz.specs.Insides.{inside_value}
+use Rattle.fm_syz.specs.Insides.{HasColumns, inside_value}
 use Rattle.fm_syz.specs.declared.inside.Inside.{Inside}
 use Rattle.fm_syz.specs.declared.inside.Outside.{Outside}
-use Rattle.fm_chain.specs.Chains.{AreMembersOf, chain_meaning, link_value, links_meaning, member_graph, turn_value}
+use Rattle.fm_chain.specs.Chains.{AreMembersOf, HasFactor, chain_meaning, link_value, links_meaning, member_graph, turn_value}
 use Rattle.fm_chain.specs.declared.links.Link.{Link}
 use Rattle.fm_chain.proofs.LinkParts.{chain_work_spends}
-use Rattle.fm_chain.proofs.Members.{member_fits, members_more, grown_value, last_value, spends_again}
+use Rattle.fm_chain.proofs.Members.{member_fits, members_more, grown_value, last_value, factor_found, spends_again}
 use Rattle.fm_chain.proofs.chaining.grow.Goals as goal
 
 pub next_member-requires-clause-some : goal.next_member-requires-clause-some
@@ -182,6 +182,21 @@ returns-in-All-clause-members c =
     let ring : g.matrix.ring ≡ r = ap (λ (x : GraphValue). x.matrix.ring) is ∙ fits.0 in
     let rows : g.matrix.rows ≡ rel.matrix.rows = ap (λ (x : GraphValue). x.matrix.rows) is ∙ fits.1 in
     subst (AreMembersOf r rel.matrix.rows) (sym c.in_ok-push.ensures.items) (members_more r rel.matrix.rows links c.in_ok-link.link.member c.requires.members (c.in_ok-link.ensures.ring ∙ ring) (c.in_ok-link.ensures.rows ∙ rows))
+
+pub returns-in-All-clause-factor : goal.returns-in-All-clause-factor
+returns-in-All-clause-factor c =
+    let rel = c.args.relations.now in
+    let r = rel.matrix.ring in
+    let links = c.args.links.now.items in
+    let growth = c.args.growth.now.items in
+    let g = c.member-g.result.now in
+    let is : g ≡ member_graph rel links (length growth) = c.member-g.ensures ∙ ap (λ xs. member_graph rel xs c.len.result) c.deref.ensures.value ∙ ap (member_graph rel links) (c.len.ensures ∙ c.args.growth.now.ok.0) in
+    let fits = member_fits r rel.matrix.rows rel refl refl links c.requires.members (length growth) in
+    let ring : g.matrix.ring ≡ r = ap (λ (x : GraphValue). x.matrix.ring) is ∙ fits.0 in
+    let inside = subst (HasColumns g.matrix.ring (length g.matrix.columns)) c.in-All.is c.in_ok-link.ensures.columns in
+    subst (λ (ws : Vec Column Global). HasFactor r rel (record { links = c.push.new.self.items; growth = growth; w = ws.items })) (sym c.in-All.columns-is)
+    (subst (λ (xs : List PreimageValue). HasFactor r rel (record { links = xs; growth = growth; w = c.in-All.columns.items })) (sym c.in_ok-push.ensures.items)
+    (factor_found rel links growth c.in_ok-link.link.member g c.in-All.columns.items c.requires.count is ring inside.0))
 
 pub returns-in_ok-push-in-First-clause-follows : goal.returns-in_ok-push-in-First-clause-follows
 returns-in_ok-push-in-First-clause-follows c =

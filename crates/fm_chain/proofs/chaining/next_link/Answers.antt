@@ -7,7 +7,7 @@ use Rattle.fm_mat.specs.declared.column.Column.{Column}
 use Rattle.fm_plan.specs.Base.{chain_work}
 use Rattle.fm_plan.proofs.Following.{told_of}
 use Rattle.fm_mat.proofs.Steps.{map_length}
-use Rattle.fm_chain.specs.Chains.{AreMembersOf, links_meaning, outside_value, turn_value, with_last}
+use Rattle.fm_chain.specs.Chains.{AreMembersOf, EndsWithFactor, links_meaning, outside_value, turn_value, with_last}
 use Rattle.fm_chain.proofs.Members.{still, still_holds}
 use Rattle.fm_chain.proofs.chaining.next_link.Goals as goal
 
@@ -29,3 +29,6 @@ returns-clause-members c = still_holds (AreMembersOf c.args.relations.now.matrix
 
 pub returns-clause-spent : goal.returns-clause-spent
 returns-clause-spent c = still (λ (o : Option (Vec Column Global)). o ≡ None → c.grow-turn.new.work < c.args.work.now) _ c.grow-turn.result c.in_task.result c.in_task.ensures c.grow-turn.ensures.spent
+
+pub returns-clause-factor : goal.returns-clause-factor
+returns-clause-factor c = still (EndsWithFactor c.args.relations.now.matrix.ring c.args.relations.now c.grow-turn.new.links.items c.grow-turn.new.growth.items) _ c.grow-turn.result c.in_task.result c.in_task.ensures c.grow-turn.ensures.factor

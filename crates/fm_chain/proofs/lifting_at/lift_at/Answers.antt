@@ -1,13 +1,14 @@
-use Rattle.std.proofs.Common.{refl, subst}
+use Rattle.std.proofs.Common.{length, refl, subst, arith}
 use Rattle.fm_poly.specs.declared.ring.Ring.{Ring}
 use Rattle.fm_run.specs.Runs.{Follows, ended_with, halt_of}
 use Rattle.fm_run.proofs.Parts.{failed}
-use Rattle.fm_mat.specs.Matrices.{column_meaning}
+use Rattle.fm_mat.specs.Matrices.{column_meaning, matrix_meaning}
+use Rattle.fm_mat.proofs.Steps.{map_length}
 use Rattle.fm_graphs.specs.Graphs.{lift_run}
 use Rattle.fm_plan.specs.Queries.{lift_at}
 use Rattle.fm_syz.specs.GraphValues.{graph_meaning}
 use Rattle.fm_syz.specs.Insides.{answer_of, lifted_value}
-use Rattle.fm_chain.proofs.Lifts.{lift_stops, lift_goes}
+use Rattle.fm_chain.proofs.Lifts.{lift_few, lift_stops, lift_goes}
 use Rattle.fm_chain.proofs.lifting_at.lift_at.Goals as goal
 
 pub returns-in_err-h-clause-follows : goal.returns-in_err-h-clause-follows
@@ -27,3 +28,10 @@ returns-clause-follows c =
     let units = c.args.work.now in
     lift_goes r c.args.e (graph_meaning r g) (column_meaning r c.args.v.now) units c.lift.new.work h c.lift.result (c.in_ok-h.ensures.follows r units refl)
     (subst (λ (s : Ring). Follows (lifted_value s) c.lift.result units c.lift.new.work (ended_with (answer_of s (graph_meaning s h)) (lift_run s (graph_meaning s h) (column_meaning s c.args.v.now) units))) c.in_ok-h.ensures.ring c.lift.ensures.follows)
+
+pub returns-clause-few : goal.returns-clause-few
+returns-clause-few c =
+    let h = c.in_ok-h.h in
+    let s = h.matrix.ring in
+    let high = c.matrix-matrix.ensures.complete.high in
+    lift_few s (matrix_meaning s h.matrix) (column_meaning s c.args.v.now) (length h.matrix.columns) (map_length (column_meaning s) h.matrix.columns) (omega (arith, high)) c.lift.result c.lift.ensures.solves

@@ -19,7 +19,7 @@ use Rattle.fm_syz.specs.declared.lifted.Lifted.{Lifted}
 use Rattle.fm_syz.specs.declared.lifted.Lifted.TheVariants.{InImage, NotInImage}
 use Rattle.fm_chain.specs.Chains.{outside_value}
 use Rattle.fm_chain.specs.Stages.{AreGraphsOf, killed_value}
-use Rattle.fm_chain.proofs.LeastMoves.{kernel_at, none_more, stage_says}
+use Rattle.fm_chain.proofs.LeastMoves.{kernel_at, none_more, stage_few, stage_says}
 use Rattle.fm_chain.proofs.StageRuns.{dropped, lift_spends, stage_told, stage_stops, stage_goes}
 use Rattle.fm_chain.proofs.stages.kill_stage.Goals as goal
 
@@ -96,6 +96,7 @@ returns-in-InImage c =
     record {
       follows = stage_goes r e W all s before G (drop (suc i) GS) units new left (lifted_value r (InImage c.in-InImage.v)) run;
       least = (omega (arith, few, count, less), solves.2, solves.1, c.loop-g.invariant.none);
+      over = (says.0, stage_few c.stage_task.result c.lift_at.result c.in_ok-lifted.lifted (InImage c.in-InImage.v) c.in_ok-lifted.ensures c.in-InImage.is c.lift_at.ensures.few);
     }
 
 pub loop-g-preserved : goal.loop-g-preserved

@@ -1,4 +1,4 @@
-use Rattle.std.proofs.Common.{ℕ, suc, ◌+◌, ◌≤◌, ◌≡◌, ◌∷◌, Option, Some, Ok, not, false, true, length, refl, sym, ap, ◌∙◌, subst, arith}
+use Rattle.std.proofs.Common.{ℕ, suc, ◌+◌, ◌≤◌, ◌≡◌, ◌∷◌, Option, Some, Ok, not, false, true, length, refl, ap, ◌∙◌, subst, arith}
 use Rattle.fm_complete.specs.Divisions as divisions
 use Rattle.fm_complete.specs.Remainders.{remainder_value}
 use Rattle.fm_graphs.specs.Trims.{is_zero}

@@ -5,7 +5,6 @@ use Rattle.fm_plan.specs.Tasks.{out_of_units}
 use Rattle.fm_mat.specs.Matrices.{matrix_meaning}
 use Rattle.fm_run.specs.declared.task.Name.TheVariants as names
 use Rattle.fm_run.specs.declared.task.Side.TheVariants.{Alone}
-use Rattle.fm_run.specs.Turns.{repeated}
 use Rattle.fm_run.proofs.Calls.{turn_halts}
 use Rattle.fm_run.proofs.Following.{ended, turned}
 use Rattle.fm_syz.specs.GraphValues.{graph_meaning}
@@ -32,25 +31,24 @@ links-preserved c =
       fit = on.1;
     }
 
-pub returns-in-Err : goal.returns-in-Err
-returns-in-Err c =
+pub returns-in-Err-clause-follows : goal.returns-in-Err-clause-follows
+returns-in-Err-clause-follows c =
     let k = c.args.first.now in
     let r = k.matrix.ring in
     let u = matrix_meaning r c.args.u.now in
     let F = graph_meaning r k in
-    record {
-      follows = turn_halts (out_of_units Alone names.Onto) (plans.join_turn r u F) (λ s. link_spends r u F s) c.args.work.now c.join_turn.new.work (joining r u F (outside_value c.args.proper) c.args.work.now)
-          (joins_value r k c.links.c) c.links.work c.links.invariant.left c.links.invariant.spent (unanswered_by c.in-Err.stopped) c.in-Err.ensures.follows;
-    }
+    turn_halts (out_of_units Alone names.Onto) (plans.join_turn r u F) (λ s. link_spends r u F s) c.args.work.now c.join_turn.new.work (joining r u F (outside_value c.args.proper) c.args.work.now)
+    (joins_value r k c.links.c) c.links.work c.links.invariant.left c.links.invariant.spent (unanswered_by c.in-Err.stopped) c.in-Err.ensures.follows
 
-pub returns-in-Ok-Last : goal.returns-in-Ok-Last
-returns-in-Ok-Last c =
+pub returns-in-Ok-Last-clause-follows : goal.returns-in-Ok-Last-clause-follows
+returns-in-Ok-Last-clause-follows c =
     let k = c.args.first.now in
     let r = k.matrix.ring in
     let u = matrix_meaning r c.args.u.now in
     let F = graph_meaning r k in
-    record {
-      follows = ended (out_of_units Alone names.Onto) (plans.join_turn r u F) (joining r u F (outside_value c.args.proper) c.args.work.now) (joins_value r k c.links.c) c.links.work c.join_turn.new.work (joined_value r k c.in-Ok-Last.x)
-          c.links.invariant.left
-          (subst (λ x. FollowsPlan (turn_value r k) (Ok x) c.links.work c.join_turn.new.work (plans.join_turn r u F (joins_value r k c.links.c) c.links.work)) c.in-Ok-Last.field-0-is c.in-Ok-Last.ensures.follows);
-    }
+    ended (out_of_units Alone names.Onto) (plans.join_turn r u F) (joining r u F (outside_value c.args.proper) c.args.work.now) (joins_value r k c.links.c) c.links.work c.join_turn.new.work (joined_value r k c.in-Ok-Last.x)
+    c.links.invariant.left
+    (subst (λ x. FollowsPlan (turn_value r k) (Ok x) c.links.work c.join_turn.new.work (plans.join_turn r u F (joins_value r k c.links.c) c.links.work)) c.in-Ok-Last.field-0-is c.in-Ok-Last.ensures.follows)
+
+pub returns-in-Ok-Last-clause-over : goal.returns-in-Ok-Last-clause-over
+returns-in-Ok-Last-clause-over c = subst (GoesOn c.args.first.now c.links.work c.join_turn.new.work) c.in-Ok-Last.field-0-is c.in-Ok-Last.ensures.spent

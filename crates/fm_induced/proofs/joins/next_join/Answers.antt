@@ -1,4 +1,4 @@
-use Rattle.std.proofs.Common.{◌≡◌, ◌≤◌, Ok, Err, IfOk, sym, ap, ◌∙◌, subst, arith}
+use Rattle.std.proofs.Common.{◌≡◌, ◌≤◌, Ok, Err, sym, ap, ◌∙◌, subst}
 use Rattle.fm_graphs.specs.Graphs.{whole_run}
 use Rattle.fm_graphs.specs.Trims.{preimage_run}
 use Rattle.fm_mat.specs.Matrices.{MatrixValue, columns_meaning, matrix_meaning}
@@ -115,6 +115,14 @@ settle-requires-clause-ring c =
 
 pub settle-requires-clause-rows : goal.settle-requires-clause-rows
 settle-requires-clause-rows c =
+    c.in_ok-x.ensures.rows ∙ c.requires.square
+
+pub reached-requires-clause-ring : goal.reached-requires-clause-ring
+reached-requires-clause-ring c =
+    c.in_ok-x.ensures.ring ∙ c.requires.ring
+
+pub reached-requires-clause-rows : goal.reached-requires-clause-rows
+reached-requires-clause-rows c =
     c.in_ok-x.ensures.rows ∙ c.requires.square
 
 pub reached-requires-clause-columns : goal.reached-requires-clause-columns

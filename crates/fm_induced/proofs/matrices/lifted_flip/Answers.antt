@@ -1,4 +1,4 @@
-use Rattle.std.proofs.Common.{sym, ap, ◌∙◌, subst, arith}
+use Rattle.std.proofs.Common.{arith}
 use Rattle.fm_mat.specs.Matrices.{matrix_meaning}
 use Rattle.fm_plan.specs.Queries.{phi_work}
 use Rattle.fm_run.proofs.Calls.{wanted}

@@ -7,7 +7,7 @@ use Rattle.fm_syz.specs.GraphValues.{GraphValue}
 use Rattle.fm_syz.specs.GeneratorValues.{GeneratorsValue, PreimageValue}
 use Rattle.fm_resolve.specs.Resolutions.{ResolutionValue, resolution_value}
 use Rattle.fm_ext.specs.Exts.{ExtValue, IsExt}
-use Rattle.fm_chain.specs.Chains.{ChainValue, AreMembersOf}
+use Rattle.fm_chain.specs.Chains.{ChainValue, AreMembersOf, HasFactor}
 use Rattle.fm_queries.proofs.BaseRuns.{ext_stops, chain_stops, chain_ends, chain_told}
 use Rattle.fm_queries.proofs.base.compute_base_of.Goals as goal
 
@@ -37,6 +37,7 @@ invariant_of-result c =
       members = subst₂ (λ (s : Ring) m. AreMembersOf s m c.in_ok-chain.chain.links) (ap (λ (g : GraphValue). g.matrix.ring) graph ∙ c.in_ok-ext.ensures.presents.relations)
           (ap (λ (g : GraphValue). g.matrix.rows) graph ∙ c.in_ok-ext.ensures.presents.relations_rows) c.in_ok-chain.ensures.members;
       count = c.links-links.ensures.count;
+      factor = subst₂ (λ (s : Ring) (g : GraphValue). HasFactor s g c.in_ok-chain.chain) (ap (λ (g : GraphValue). g.matrix.ring) graph ∙ c.in_ok-ext.ensures.presents.relations) graph c.in_ok-chain.ensures.factor;
     }
 
 pub returns-clause-follows : goal.returns-clause-follows

@@ -1,5 +1,7 @@
 use Rattle.std.proofs.Common.{◌≡◌, None, Err, Ok, length, refl, sym, ap, ◌∙◌, subst}
 use Rattle.fm_mat.specs.Matrices.{column_meaning}
+use Rattle.fm_poly.specs.declared.ring.Ring.{Ring}
+use Rattle.fm_vec.specs.Components.{AreOver}
 use Rattle.fm_run.proofs.Parts.{failed}
 use Rattle.fm_plan.specs.Queries.{chain_graphs, stages}
 use Rattle.fm_plan.specs.Following.{FollowsPlan}
@@ -7,7 +9,7 @@ use Rattle.fm_syz.specs.GraphValues.{GraphValue}
 use Rattle.fm_syz.specs.GeneratorValues.{GeneratorsValue, PreimageValue}
 use Rattle.fm_resolve.specs.Resolutions.{resolution_value}
 use Rattle.fm_ext.specs.Exts.{ExtValue}
-use Rattle.fm_chain.specs.Stages.{killed_value}
+use Rattle.fm_chain.specs.Stages.{IsKilledOver, killed_value}
 use Rattle.fm_queries.specs.Bases.{BaseValue, base_meaning}
 use Rattle.fm_queries.specs.Founds.{ended_by}
 use Rattle.fm_queries.specs.declared.unanswered.Unanswered.TheVariants as ends
@@ -139,7 +141,7 @@ returns-in_err-killed-clause-follows c =
     let same_w : v ≡ w.items = c.deref.ensures.value in
     let s = c.in_err-killed.field-0.0 in
     let new = c.killed_in.new.work in
-    let told = kill_told r b (c.in_ok-base.ensures.ring ∙ over) e v (Err s) three new c.in_err-killed.ensures in
+    let told = kill_told r b (c.in_ok-base.ensures.ring ∙ over) e v (Err s) three new c.in_err-killed.ensures.follows in
     failed _ ended_by c.from_residual-in_err-killed.result (ends.Stopped s) _ _ _ c.from_residual-in_err-killed.ensures
     (kill_stops r i fs e Z old one X c.in_ok-resolution.ensures.follows passes two B based three (column_meaning r w.items) coordinates new s
     (subst (λ v. FollowsPlan (killed_value r) (Err s) three new (stages r e (column_meaning r v) 0 None (chain_graphs r B) three)) same_w told))
@@ -173,7 +175,20 @@ returns-clause-follows c =
     let same_w : v ≡ w.items = c.deref.ensures.value in
     let new = c.killed_in.new.work in
     let k = c.in_ok-killed.killed in
-    let told = kill_told r b (c.in_ok-base.ensures.ring ∙ over) e v (Ok k) three new c.in_ok-killed.ensures in
+    let told = kill_told r b (c.in_ok-base.ensures.ring ∙ over) e v (Ok k) three new c.in_ok-killed.ensures.follows in
     kill_ends r i fs e Z old one X c.in_ok-resolution.ensures.follows passes two B based three (column_meaning r w.items) coordinates new (killed_value r k)
     (subst (λ v. FollowsPlan (killed_value r) (Ok k) three new (stages r e (column_meaning r v) 0 None (chain_graphs r B) three)) same_w told)
     (record { base = b; coordinates = w; killed = k }) refl
+
+pub returns-clause-coordinates : goal.returns-clause-coordinates
+returns-clause-coordinates c =
+    let r = c.args.ring in
+    let b = c.in_ok-base.base in
+    let g = b.ext.cocycles.generators.graph in
+    let h = c.graph-cocycles.result.now in
+    let same : h ≡ g = c.graph-cocycles.ensures ∙ ap (λ (x : GeneratorsValue). x.graph) (c.generators.ensures.same ∙ ap (λ (p : PreimageValue). p.generators) (c.cocycles.ensures.same ∙ ap (λ (y : ExtValue). y.cocycles) c.ext.ensures.same)) in
+    let ring : g.matrix.ring ≡ r = c.ext.ensures.base.ext.cocycles ∙ c.in_ok-base.ensures.ring ∙ c.in_ok-resolution.ensures.ring in
+    subst (λ (s : Ring). AreOver s c.in_ok-w.w.items) (ap (λ (g : GraphValue). g.matrix.ring) same ∙ ring) c.in_ok-w.ensures.over
+
+pub returns-clause-killed : goal.returns-clause-killed
+returns-clause-killed c = subst (λ (s : Ring). IsKilledOver s c.in_ok-killed.killed) (c.in_ok-base.ensures.ring ∙ c.in_ok-resolution.ensures.ring) c.in_ok-killed.ensures.over

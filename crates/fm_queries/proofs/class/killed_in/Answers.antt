@@ -10,14 +10,14 @@ use Rattle.fm_syz.specs.GraphValues.{graph_meaning}
 use Rattle.fm_lift.proofs.Calls.{plan_wants, told_memory, told_ok}
 use Rattle.fm_ext.specs.Exts.{ring_of}
 use Rattle.fm_chain.specs.Chains.{member_graphs}
-use Rattle.fm_chain.specs.Stages.{AreGraphsOf, killed_value}
+use Rattle.fm_chain.specs.Stages.{AreGraphsOf, IsKilledOver, killed_value}
 use Rattle.fm_chain.proofs.StageRuns.{stages_spends}
 use Rattle.fm_queries.specs.Bases.{base_meaning, relations_graph}
 use Rattle.fm_queries.proofs.Coordinates.{graphs_fit, graphs_mean}
 use Rattle.fm_queries.proofs.class.killed_in.Goals as goal
 
-pub returns-in_err-graphs : goal.returns-in_err-graphs
-returns-in_err-graphs c =
+pub returns-in_err-graphs-clause-follows : goal.returns-in_err-graphs-clause-follows
+returns-in_err-graphs-clause-follows c =
     let b = c.args.base.now in
     let r = ring_of b.ext in
     let units = c.args.work.now in
@@ -35,8 +35,8 @@ kill_stage-requires-clause-graphs c =
     subst (λ xs. AreGraphsOf c.ring.result (length c.args.w.now) (map (λ g. g.now) xs)) (sym c.deref.ensures.value)
     (graphs_fit b c.ring.result (map (λ g. g.now) gs.items) are c.graphs.ensures.base (sym c.ring.ensures) c.args.w.now c.requires.length)
 
-pub returns : goal.returns
-returns c =
+pub returns-clause-follows : goal.returns-clause-follows
+returns-clause-follows c =
     let b = c.args.base.now in
     let r = ring_of b.ext in
     let gs = c.in_ok-graphs.graphs in
@@ -46,3 +46,6 @@ returns c =
     subst (λ (Gs : Rattle.std.proofs.Common.List (Graph r)). FollowsPlan (killed_value r) c.kill_stage.result old new (stages r c.args.e (column_meaning r c.args.w.now) 0 None Gs old))
     (ap (map (λ g. graph_meaning r g.now)) c.deref.ensures.value ∙ sym (map-map (graph_meaning r) (λ g. g.now) gs.items) ∙ graphs_mean b r (map (λ g. g.now) gs.items) are)
     (subst (λ (s : Ring). FollowsPlan (killed_value s) c.kill_stage.result old new (stages s c.args.e (column_meaning s c.args.w.now) 0 None (map (λ g. graph_meaning s g.now) c.deref.result.now) old)) c.ring.ensures c.kill_stage.ensures.follows)
+
+pub returns-clause-over : goal.returns-clause-over
+returns-clause-over c = subst (λ (s : Ring). IfOk c.kill_stage.result (IsKilledOver s)) c.ring.ensures c.kill_stage.ensures.over

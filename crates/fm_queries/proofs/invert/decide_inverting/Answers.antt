@@ -5,6 +5,7 @@ use Rattle.fm_poly.specs.Polys.{meaning}
 use Rattle.fm_run.proofs.Parts.{failed}
 use Rattle.fm_plan.specs.Following.{unanswered_by}
 use Rattle.fm_syz.specs.GraphValues.{GraphValue}
+use Rattle.fm_support.specs.Inverting.{IsInvertedOver}
 use Rattle.fm_queries.specs.Bases.{stable_graph}
 use Rattle.fm_queries.proofs.StableGraphs.{stable_ring}
 use Rattle.fm_queries.proofs.CallsTold.{inverting_told}
@@ -45,3 +46,6 @@ returns-clause-follows c =
     let ring : (stable_graph b).matrix.ring ≡ r = stable_ring b c.stable_kernel.ensures.base ∙ c.in_ok-base.ensures.ring in
     invert_ends r c.args.degree (column_meaning r c.args.generators.now) (meaning r c.args.f.now.terms) c.args.work.now c.compute_base.new.work c.invert.new.work b c.in_ok-base.ensures.follows c.in_ok-inverted.inverted
     (inverting_told r (stable_graph b) c.stable_kernel.result.now c.stable_kernel.ensures.same ring c.compute_base.new.work c.invert.new.work c.args.f.now.terms (Ok c.in_ok-inverted.inverted) c.in_ok-inverted.ensures.follows)
+
+pub returns-clause-over : goal.returns-clause-over
+returns-clause-over c = subst (λ (g : GraphValue). IsInvertedOver g c.in_ok-inverted.inverted) c.stable_kernel.ensures.same c.in_ok-inverted.ensures.over

@@ -89,4 +89,6 @@ returns-clause-follows c =
     compare_goes i b d ls items same c.in_ok-lambda.ensures.first c.args.work.now c.lambda_of.new.work c.in_ok-lambda.ensures.follows m (c.matrix_of.ensures.value (ring_of b.ext)) c.phi_of.new.work c.in_ok-phi.phi c.in_ok-phi.ensures.follows c.compare.new.work c.in_ok-compared.compared c.in_ok-compared.ensures.follows
 
 pub returns-clause-over : goal.returns-clause-over
-returns-clause-over c = record { lambda = c.in_ok-lambda.ensures.rings; phi = c.in_ok-phi.ensures.ring }
+returns-clause-over c =
+    let over = c.in_ok-compared.ensures.over in
+    record { lambda = c.in_ok-lambda.ensures.rings; phi = c.in_ok-phi.ensures.ring; null = over.null; one = over.one; onto = over.onto }

@@ -1,4 +1,4 @@
-use Rattle.std.proofs.Common.{Ok, Err, refl, sym, ap, ◌∙◌, arith}
+use Rattle.std.proofs.Common.{Ok, Err, refl, ◌∙◌, arith}
 use Rattle.fm_limit.specs.Facts.{unit_column, diagonal_blocks}
 use Rattle.fm_mat.specs.Matrices.{matrix_meaning}
 use Rattle.fm_run.specs.Runs.{halt_of}

@@ -1,4 +1,4 @@
-use Rattle.std.proofs.Common.{◌/◌, ◌%◌, ◌≡◌, ◌<◌, cond, eqb, length, ap, subst, sym, ◌∙◌, arith}
+use Rattle.std.proofs.Common.{◌/◌, ◌%◌, ◌<◌, cond, eqb, length, ap, subst, sym, ◌∙◌, arith}
 use Rattle.fm_algebra.specs.Matrix.{component}
 use Rattle.fm_algebra.specs.Polynomials.{polynomials, polynomial_zero}
 use Rattle.fm_poly.specs.Polys.{PolyValue, meaning}

@@ -1,11 +1,10 @@
-use Rattle.std.proofs.Common.{◌++◌, ◌∷◌, [], List, ◌*◌, ◌/◌, ◌%◌, ◌≡◌, ◌<◌, cond, eqb, length, ap, subst, sym, ◌∙◌, arith}
-use Rattle.fm_algebra.specs.Matrix.{component, entry, listed}
+use Rattle.std.proofs.Common.{◌++◌, ◌∷◌, [], ◌*◌, ◌/◌, ◌%◌, cond, eqb, length, ap, subst, sym, ◌∙◌, arith}
+use Rattle.fm_algebra.specs.Matrix.{entry, listed}
 use Rattle.fm_algebra.specs.Polynomials.{polynomials, polynomial_zero}
-use Rattle.fm_poly.specs.Polys.{PolyValue, meaning}
 use Rattle.fm_mat.specs.Matrices.{AreColumns, column_meaning, columns_meaning}
 use Rattle.fm_mat.proofs.Operations.{listed_push, listed_none}
 use Rattle.fm_mat.proofs.Steps.{columns_more}
-use Rattle.fm_support.proofs.Tables.{below_width, column_at, column_entries, block_entries}
+use Rattle.fm_support.proofs.Tables.{below_width, column_at, block_entries}
 use Rattle.fm_support.proofs.blocks.block_columns.Goals as goal
 
 pub loop-j-init : goal.loop-j-init

@@ -1,6 +1,6 @@
-use Rattle.std.proofs.Common.{rules, ap}
-use Rattle.fm_mat.specs.Matrices.{MatrixValue, columns_meaning}
-use Rattle.fm_support.proofs.Tables.{blocks_are, blocks_at}
+use Rattle.std.proofs.Common.{ap}
+use Rattle.fm_mat.specs.Matrices.{MatrixValue}
+use Rattle.fm_support.proofs.Tables.{blocks_at}
 use Rattle.fm_support.proofs.blocks.diagonal_blocks.Goals as goal
 
 pub returns-clause-value : goal.returns-clause-value

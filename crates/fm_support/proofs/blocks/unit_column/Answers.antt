@@ -1,6 +1,5 @@
 use Rattle.std.proofs.Common.{rules, ap}
-use Rattle.fm_poly.specs.Polys.{PolyValue}
-use Rattle.fm_mat.specs.Matrices.{MatrixValue, columns_meaning}
+use Rattle.fm_mat.specs.Matrices.{MatrixValue}
 use Rattle.fm_support.proofs.Tables.{unit_column_is}
 use Rattle.fm_support.proofs.blocks.unit_column.Goals as goal
 

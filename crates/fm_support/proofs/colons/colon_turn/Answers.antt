@@ -1,4 +1,4 @@
-use Rattle.std.proofs.Common.{◌≡◌, ◌+◌, suc, length, map, ap, ◌∙◌, arith}
+use Rattle.std.proofs.Common.{◌≡◌, ◌+◌, suc, length, ap, ◌∙◌, arith}
 use Rattle.fm_mat.proofs.Steps.{map_length}
 use Rattle.fm_poly.specs.Polys.{meaning}
 use Rattle.fm_run.specs.declared.task.Name.TheVariants as names

@@ -5,7 +5,6 @@ use Rattle.fm_plan.specs.Tasks.{out_of_units}
 use Rattle.fm_poly.specs.Polys.{meaning}
 use Rattle.fm_run.specs.declared.task.Name.TheVariants as names
 use Rattle.fm_run.specs.declared.task.Side.TheVariants.{Alone}
-use Rattle.fm_run.specs.Turns.{repeated}
 use Rattle.fm_run.proofs.Calls.{turn_halts}
 use Rattle.fm_run.proofs.Following.{turned}
 use Rattle.fm_syz.specs.GraphValues.{graph_meaning}
@@ -30,12 +29,13 @@ colons-preserved c =
       colons = on.1;
     }
 
-pub returns-in-Err : goal.returns-in-Err
-returns-in-Err c =
+pub returns-in-Err-clause-follows : goal.returns-in-Err-clause-follows
+returns-in-Err-clause-follows c =
     let k = c.args.k.now in
     let r = k.matrix.ring in
     let f = meaning r c.args.f.now.terms in
-    record {
-      follows = turn_halts (out_of_units Alone names.Colon) (plans.colon_turn r f) (λ s. colon_spends r f s) c.args.work.now c.colon_turn.new.work (turning r f (graph_meaning r k) (outside_value c.args.proper) c.args.work.now)
-          (colons_value r k c.colons.c) c.colons.work c.colons.invariant.left c.colons.invariant.spent (unanswered_by c.in-Err.stopped) c.in-Err.ensures.follows;
-    }
+    turn_halts (out_of_units Alone names.Colon) (plans.colon_turn r f) (λ s. colon_spends r f s) c.args.work.now c.colon_turn.new.work (turning r f (graph_meaning r k) (outside_value c.args.proper) c.args.work.now)
+    (colons_value r k c.colons.c) c.colons.work c.colons.invariant.left c.colons.invariant.spent (unanswered_by c.in-Err.stopped) c.in-Err.ensures.follows
+
+pub returns-in-Ok-Last-clause-over : goal.returns-in-Ok-Last-clause-over
+returns-in-Ok-Last-clause-over c = subst (GoesOn c.args.k.now c.colons.work c.colon_turn.new.work) c.in-Ok-Last.field-0-is c.in-Ok-Last.ensures.spent

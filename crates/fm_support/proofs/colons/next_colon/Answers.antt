@@ -1,6 +1,6 @@
 use Rattle.std.proofs.Common.{◌≡◌, ◌≤◌, ◌+◌, suc, length, map, Ok, Err, sym, ap, ◌∙◌, subst, arith}
 use Rattle.fm_graphs.specs.Graphs.{whole_run}
-use Rattle.fm_mat.specs.Matrices.{MatrixValue, matrix_meaning}
+use Rattle.fm_mat.specs.Matrices.{MatrixValue}
 use Rattle.fm_mat.proofs.Steps.{map_length}
 use Rattle.fm_plan.specs.Queries as plans
 use Rattle.fm_poly.specs.declared.ring.Ring.{Ring}
@@ -9,11 +9,11 @@ use Rattle.fm_run.specs.Runs.{Follows, halt_of}
 use Rattle.fm_run.specs.Turns.{last}
 use Rattle.fm_run.proofs.Calls.{wanted}
 use Rattle.fm_run.proofs.Parts.{failed}
-use Rattle.fm_syz.specs.GeneratorValues.{GeneratorsValue, PreimageValue, preimage_meaning}
+use Rattle.fm_syz.specs.GeneratorValues.{GeneratorsValue, preimage_meaning}
 use Rattle.fm_syz.specs.GraphValues.{GraphValue, graph_meaning}
 use Rattle.fm_syz.specs.Insides.{inside_value}
 use Rattle.fm_syz.specs.declared.inside.Inside.TheVariants.{All, First}
-use Rattle.fm_support.specs.Inverting.{newest, colons_value, colon_work, outside_value, turn_value}
+use Rattle.fm_support.specs.Inverting.{newest, colons_value, colon_work, turn_value}
 use Rattle.fm_support.specs.declared.colons.ColonTurn.TheVariants.{Last}
 use Rattle.fm_support.specs.declared.colons.Coloned.TheVariants.{Whole}
 use Rattle.fm_support.proofs.ColonRuns.{newest_ring, newest_rows, colon_spends, colon_stops, test_stops, test_goes, spent, preimage_told, whole_told, goes_on_earlier}

@@ -1,9 +1,7 @@
 use Rattle.std.proofs.Common.{◌≡◌, length, Ok, Err, sym, ap, ◌∙◌, subst, arith}
-use Rattle.fm_graphs.specs.Graphs as runs
 use Rattle.fm_graphs.specs.Graphs.{inside_run}
 use Rattle.fm_mat.specs.Matrices.{MatrixValue, matrix_meaning}
 use Rattle.fm_plan.specs.Queries.{colon_settled}
-use Rattle.fm_poly.specs.declared.ring.Ring.{Ring}
 use Rattle.fm_run.specs.Runs.{Follows, halt_of, ready}
 use Rattle.fm_run.proofs.Calls.{wanted}
 use Rattle.fm_run.proofs.Parts.{failed}
@@ -82,6 +80,11 @@ returns-in-All-clause-follows c =
     (turn_value r k) (Ok (Last (Stable c.push.new.self c.new.result c.args.c.proper)))
     (ap (λ x. record { end = Ok x; left = left }) (stable_value r k c.args.c.colons.items c.push.new.self.items c.args.x (newest k c.args.c.colons.items) c.new.result c.in-All.columns.items c.in_ok-push.ensures.items
     (ap (λ (m : MatrixValue). m.rows) c.new.ensures ∙ c.width-width.ensures ∙ ap (λ (g : GraphValue). length g.matrix.columns) M) (ap (λ (m : MatrixValue). m.columns) c.new.ensures) (outside_value c.args.c.proper)))
+
+pub returns-in-All-clause-spent : goal.returns-in-All-clause-spent
+returns-in-All-clause-spent c =
+    let k = c.args.k.now in
+    (subst (AreColons k) (sym c.in_ok-push.ensures.items) (colons_more k c.args.c.colons.items c.args.x c.requires.colons c.requires.ring c.requires.rows), ap (λ (m : MatrixValue). m.ring) c.new.ensures ∙ c.ring.ensures)
 
 pub returns-in-First-clause-follows : goal.returns-in-First-clause-follows
 returns-in-First-clause-follows c =

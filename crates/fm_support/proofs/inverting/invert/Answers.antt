@@ -1,4 +1,3 @@
-use Rattle.fm_mat.specs.Matrices.{matrix_meaning}
 use Rattle.fm_poly.specs.Polys.{meaning}
 use Rattle.fm_syz.specs.GraphValues.{graph_meaning}
 use Rattle.fm_support.proofs.LeastPowers.{least_told}

@@ -12,8 +12,8 @@ use Rattle.fm_support.proofs.PowerRuns.{power_halts, power_on, lift_halts, lift_
 use Rattle.fm_syz.specs.GraphValues.{graph_meaning}
 use Rattle.fm_support.proofs.inverting.positive.Goals as goal
 
-pub returns-in_err-before : goal.returns-in_err-before
-returns-in_err-before c =
+pub returns-in_err-before-clause-follows : goal.returns-in_err-before-clause-follows
+returns-in_err-before-clause-follows c =
     let r = c.args.g.now.matrix.ring in
     let F = meaning r c.args.f.now.terms in
     let G = graph_meaning r c.args.g.now in
@@ -21,13 +21,11 @@ returns-in_err-before c =
     let j = c.args.k - 1 in
     let next : suc j ≡ c.args.k = omega (arith, c.requires.positive) in
     let z = c.in_err-before.field-0.0 in
-    record {
-      follows = failed (inverted_value r) halt_of c.from_residual.result z old old (power_work r c.args.k F G old) c.from_residual.ensures
-          (subst (λ k. Follows {X = Inverted} (inverted_value r) (Err z) old old (power_work r k F G old)) next (before_halts r j F G (inverted_value r) old old z (c.in_err-before.ensures.follows r old c.requires.ring)));
-    }
+    failed (inverted_value r) halt_of c.from_residual.result z old old (power_work r c.args.k F G old) c.from_residual.ensures
+    (subst (λ k. Follows {X = Inverted} (inverted_value r) (Err z) old old (power_work r k F G old)) next (before_halts r j F G (inverted_value r) old old z (c.in_err-before.ensures.follows r old c.requires.ring)))
 
-pub returns-in_err-top : goal.returns-in_err-top
-returns-in_err-top c =
+pub returns-in_err-top-clause-follows : goal.returns-in_err-top-clause-follows
+returns-in_err-top-clause-follows c =
     let r = c.args.g.now.matrix.ring in
     let F = meaning r c.args.f.now.terms in
     let G = graph_meaning r c.args.g.now in
@@ -36,14 +34,12 @@ returns-in_err-top c =
     let next : suc j ≡ c.args.k = omega (arith, c.requires.positive) in
     let z = c.in_err-top.field-0.0 in
     let b = meaning r c.in_ok-before.before.terms in
-    record {
-      follows = failed (inverted_value r) halt_of c.from_residual-in_err-top.result z old old (power_work r c.args.k F G old) c.from_residual-in_err-top.ensures
-          (subst (λ k. Follows {X = Inverted} (inverted_value r) (Err z) old old (power_work r k F G old)) next (power_halts r (suc j) F G (inverted_value r) old old z
-          (power_next_is r j F G (inverted_value r) old b (c.in_ok-before.ensures.follows r old c.requires.ring) old (Err z) (c.in_err-top.ensures.follows r old j c.requires.ring (c.in_ok-before.ensures.value r c.requires.ring)))));
-    }
+    failed (inverted_value r) halt_of c.from_residual-in_err-top.result z old old (power_work r c.args.k F G old) c.from_residual-in_err-top.ensures
+    (subst (λ k. Follows {X = Inverted} (inverted_value r) (Err z) old old (power_work r k F G old)) next (power_halts r (suc j) F G (inverted_value r) old old z
+    (power_next_is r j F G (inverted_value r) old b (c.in_ok-before.ensures.follows r old c.requires.ring) old (Err z) (c.in_err-top.ensures.follows r old j c.requires.ring (c.in_ok-before.ensures.value r c.requires.ring)))))
 
-pub returns-in_err-w : goal.returns-in_err-w
-returns-in_err-w c =
+pub returns-in_err-w-clause-follows : goal.returns-in_err-w-clause-follows
+returns-in_err-w-clause-follows c =
     let r = c.args.g.now.matrix.ring in
     let F = meaning r c.args.f.now.terms in
     let G = graph_meaning r c.args.g.now in
@@ -55,14 +51,12 @@ returns-in_err-w c =
     let b = meaning r c.in_ok-before.before.terms in
     let h = meaning r c.in_ok-top.top.terms in
     let whole = power_next_is r j F G (inverted_value r) old b (c.in_ok-before.ensures.follows r old c.requires.ring) old (Ok c.in_ok-top.top) (c.in_ok-top.ensures.follows r old j c.requires.ring (c.in_ok-before.ensures.value r c.requires.ring)) in
-    record {
-      follows = failed (inverted_value r) halt_of c.from_residual-in_err-w.result z old mid (power_work r c.args.k F G old) c.from_residual-in_err-w.ensures
-          (subst (λ k. Follows {X = Inverted} (inverted_value r) (Err z) old mid (power_work r k F G old)) next
-          (power_on r (suc j) F G (inverted_value r) old old h whole mid (Err z) (lift_halts r (suc j) F G (inverted_value r) h old mid z c.in_err-w.ensures.follows)));
-    }
+    failed (inverted_value r) halt_of c.from_residual-in_err-w.result z old mid (power_work r c.args.k F G old) c.from_residual-in_err-w.ensures
+    (subst (λ k. Follows {X = Inverted} (inverted_value r) (Err z) old mid (power_work r k F G old)) next
+    (power_on r (suc j) F G (inverted_value r) old old h whole mid (Err z) (lift_halts r (suc j) F G (inverted_value r) h old mid z c.in_err-w.ensures.follows)))
 
-pub returns-in_err-inside : goal.returns-in_err-inside
-returns-in_err-inside c =
+pub returns-in_err-inside-clause-follows : goal.returns-in_err-inside-clause-follows
+returns-in_err-inside-clause-follows c =
     let r = c.args.g.now.matrix.ring in
     let F = meaning r c.args.f.now.terms in
     let G = graph_meaning r c.args.g.now in
@@ -76,15 +70,13 @@ returns-in_err-inside c =
     let h = meaning r c.in_ok-top.top.terms in
     let m = matrix_meaning r c.in_ok-w.w in
     let whole = power_next_is r j F G (inverted_value r) old b (c.in_ok-before.ensures.follows r old c.requires.ring) old (Ok c.in_ok-top.top) (c.in_ok-top.ensures.follows r old j c.requires.ring (c.in_ok-before.ensures.value r c.requires.ring)) in
-    record {
-      follows = failed (inverted_value r) halt_of c.from_residual-in_err-inside.result z old new (power_work r c.args.k F G old) c.from_residual-in_err-inside.ensures
-          (subst (λ k. Follows {X = Inverted} (inverted_value r) (Err z) old new (power_work r k F G old)) next
-          (power_on r (suc j) F G (inverted_value r) old old h whole new (Err z) (lift_on r (suc j) F G (inverted_value r) h old mid m c.in_ok-w.ensures.follows new (Err z)
-          (inside_halts r j F G (inverted_value r) b (c.in_ok-before.ensures.value r c.requires.ring) m mid new z c.in_err-inside.ensures.follows))));
-    }
+    failed (inverted_value r) halt_of c.from_residual-in_err-inside.result z old new (power_work r c.args.k F G old) c.from_residual-in_err-inside.ensures
+    (subst (λ k. Follows {X = Inverted} (inverted_value r) (Err z) old new (power_work r k F G old)) next
+    (power_on r (suc j) F G (inverted_value r) old old h whole new (Err z) (lift_on r (suc j) F G (inverted_value r) h old mid m c.in_ok-w.ensures.follows new (Err z)
+    (inside_halts r j F G (inverted_value r) b (c.in_ok-before.ensures.value r c.requires.ring) m mid new z c.in_err-inside.ensures.follows))))
 
-pub returns : goal.returns
-returns c =
+pub returns-clause-follows : goal.returns-clause-follows
+returns-clause-follows c =
     let r = c.args.g.now.matrix.ring in
     let F = meaning r c.args.f.now.terms in
     let G = graph_meaning r c.args.g.now in
@@ -98,9 +90,7 @@ returns c =
     let m = matrix_meaning r c.in_ok-w.w in
     let whole = power_next_is r j F G (inverted_value r) old b (c.in_ok-before.ensures.follows r old c.requires.ring) old (Ok c.in_ok-top.top) (c.in_ok-top.ensures.follows r old j c.requires.ring (c.in_ok-before.ensures.value r c.requires.ring)) in
     let answer : Inverted = Power c.args.k c.in_ok-w.w c.outside_part.result in
-    record {
-      follows = subst (λ k. Follows (inverted_value r) (Ok answer) old new (power_work r k F G old)) next
-          (power_on r (suc j) F G (inverted_value r) old old h whole new (Ok answer) (lift_on r (suc j) F G (inverted_value r) h old mid m c.in_ok-w.ensures.follows new (Ok answer)
-          (inside_ends r j F G (inverted_value r) b (c.in_ok-before.ensures.value r c.requires.ring) m mid new c.in_ok-inside.inside c.in_ok-inside.ensures.follows
-          ∙ (λ t. record { end = Ok (by_power (next t) m (sym (c.outside_part.ensures r) t)); left = new }))));
-    }
+    subst (λ k. Follows (inverted_value r) (Ok answer) old new (power_work r k F G old)) next
+    (power_on r (suc j) F G (inverted_value r) old old h whole new (Ok answer) (lift_on r (suc j) F G (inverted_value r) h old mid m c.in_ok-w.ensures.follows new (Ok answer)
+    (inside_ends r j F G (inverted_value r) b (c.in_ok-before.ensures.value r c.requires.ring) m mid new c.in_ok-inside.inside c.in_ok-inside.ensures.follows
+    ∙ (λ t. record { end = Ok (by_power (next t) m (sym (c.outside_part.ensures r) t)); left = new }))))
