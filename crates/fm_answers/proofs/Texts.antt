@@ -36,7 +36,7 @@ module _ (q : Problem) (sound : IsProblem q) (small : HasSmallExponents q) (unit
   problem_holds short front back e =
       let count = sound.few_queries in
       let g = queries_good 0 q.queries (omega (arith, count)) sound.asked small.queries short in
-      report_holds q (query_reports units q q.queries) (record { problem = sound; exponents = small; blocks = g.writable }) g.holds front back e
+      report_holds 0 q (query_reports units q q.queries) (omega arith) (record { problem = sound; exponents = small; blocks = g.writable }) g.holds front back e
 
 pub text_holds : (text : Bytes) (units : ℕ) (q : Problem) → length text < 2 ^ 64 → units < 2 ^ 32 → problem_of text ≡ Ok q
     → (front back : Bytes) → report_bytes units q ≡ front ++ back → VerdictsHold front

@@ -172,7 +172,7 @@ query_reports units q zs = map (query_report units q) zs
 
 -- the report of a problem, with this number of units for each query
 unfoldable pub report_bytes : ℕ → Problem → Bytes
-report_bytes units q = report_text q (query_reports units q q.queries)
+report_bytes units q = report_text 0 q (query_reports units q q.queries)
 
 -- the plan stopped in a task
 abbrev pub is_unanswered : EndKind → Bool

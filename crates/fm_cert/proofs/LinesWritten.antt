@@ -120,21 +120,24 @@ ring_text q = words_text (line_words q.vars (Head (RingLine (prime_value q.ring.
 abbrev ideals_text : Problem → Bytes
 ideals_text q = lines_text q.vars (map (ideal_line q.vars) q.ideals)
 
-head_text : (q : Problem)
-    → lines_text q.vars (head_lines q) ≡ codes "report 0\n" ++ (ring_text q ++ (words_text (codes "order" ∷ order_word q.ring.order ∷ []) ++ ideals_text q))
-unfolding lines_text line_text digits
-head_text q = refl
+abbrev version_text : ℕ → Bytes
+version_text version = words_text (codes "report" ∷ decimal version ∷ [])
 
-pub head_written : (q : Problem) (order s0 s1 s2 s3 s4 : Bytes) → order ≡ order_word q.ring.order → s1 ≡ s0 ++ codes "report 0\n"
+head_text : (version : ℕ) (q : Problem)
+    → lines_text q.vars (head_lines version q) ≡ version_text version ++ (ring_text q ++ (words_text (codes "order" ∷ order_word q.ring.order ∷ []) ++ ideals_text q))
+unfolding lines_text line_text
+head_text version q = refl
+
+pub head_written : (version : ℕ) (q : Problem) (order s0 s1 s2 s3 s4 : Bytes) → order ≡ order_word q.ring.order → s1 ≡ s0 ++ version_text version
     → s2 ≡ s1 ++ ring_text q → s3 ≡ s2 ++ words_text (codes "order" ∷ order ∷ []) → s4 ≡ s3 ++ ideals_text q
-    → s4 ≡ s0 ++ lines_text q.vars (head_lines q)
-head_written q order s0 s1 s2 s3 s4 o e1 e2 e3 e4 =
-    let first = codes "report 0\n" in
+    → s4 ≡ s0 ++ lines_text q.vars (head_lines version q)
+head_written version q order s0 s1 s2 s3 s4 o e1 e2 e3 e4 =
+    let first = version_text version in
     let ring = ring_text q in
     let third = words_text (codes "order" ∷ order_word q.ring.order ∷ []) in
     e4 ∙ ap (λ y. y ++ ideals_text q) (e3 ∙ ap₂ (λ y w. y ++ words_text (codes "order" ∷ w ∷ [])) (e2 ∙ ap (λ y. y ++ ring) e1) o)
     ∙ append_assoc ((s0 ++ first) ++ ring) third (ideals_text q) ∙ append_assoc (s0 ++ first) ring (third ++ ideals_text q)
-    ∙ append_assoc s0 first (ring ++ (third ++ ideals_text q)) ∙ ap (λ y. s0 ++ y) (sym (head_text q))
+    ∙ append_assoc s0 first (ring ++ (third ++ ideals_text q)) ∙ ap (λ y. s0 ++ y) (sym (head_text version q))
 
 -- ---- ends
 

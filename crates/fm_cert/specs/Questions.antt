@@ -44,7 +44,7 @@ question_line q (queries.TheVariants.Member k f) = MemberLine (name_at q k) (tex
 question_line q (queries.TheVariants.Resolution i k) = ModuleLine questions.TheVariants.Resolution i (name_at q k)
 question_line q (queries.TheVariants.ExtOf i k) = ModuleLine questions.TheVariants.Ext i (name_at q k)
 
--- the first lines of a report
-abbrev pub head_lines : Problem → List Line
-head_lines q =
-    Row kinds.Report (0, tt) ∷ Head (RingLine (prime_value q.ring.prime) q.vars) ∷ Head (OrderLine q.ring.order) ∷ map (ideal_line q.vars) q.ideals
+-- the first lines of a report of this version
+abbrev pub head_lines : ℕ → Problem → List Line
+head_lines version q =
+    Row kinds.Report (version, tt) ∷ Head (RingLine (prime_value q.ring.prime) q.vars) ∷ Head (OrderLine q.ring.order) ∷ map (ideal_line q.vars) q.ideals

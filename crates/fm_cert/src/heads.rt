@@ -15,13 +15,13 @@ use fm_mono::Order;
 use fm_problem::{Ideal, Problem, Query};
 use std::alloc::AllocError;
 
-/// Appends the first lines of the report of a problem: `report 0`, the ring, the order and the ideals.
-pub fn push_head(problem: &Problem, out: &mut Vec<u8>) -> Result<(), AllocError>
+/// Appends the first lines of the report of a problem: `report` and the version, the ring, the order and the ideals.
+pub fn push_head(problem: &Problem, version: u64, out: &mut Vec<u8>) -> Result<(), AllocError>
     requires { IsProblem problem.now }
-    ensures { OnOk result (out.new.items ≡ out.old.items ++ lines_text problem.now.vars (head_lines problem.now)) }
+    ensures { OnOk result (out.new.items ≡ out.old.items ++ lines_text problem.now.vars (head_lines version problem.now)) }
 {
     let names = problem.vars.as_slice();
-    out.extend_from_slice(b"report 0\n")?;
+    push_version(names, version, out)?;
     push_ring(problem, out)?;
     push_row(
         names,
@@ -30,6 +30,14 @@ pub fn push_head(problem: &Problem, out: &mut Vec<u8>) -> Result<(), AllocError>
         out,
     )?;
     push_ideals(problem, out)?;
+    Ok(())
+}
+
+fn push_version(names: &[String], version: u64, out: &mut Vec<u8>) -> Result<(), AllocError>
+    ensures { OnOk result (out.new.items ≡ out.old.items ++ words_text (codes "report" ∷ decimal version ∷ [])) }
+{
+    let pieces = [Piece::Number(version)];
+    push_row(names, b"report", &pieces, out)?;
     Ok(())
 }
 

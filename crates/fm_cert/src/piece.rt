@@ -4,12 +4,12 @@ use fm_run::Task;
 
 /// What a line is written of after its first word.
 #[derive(Clone, Copy)]
-pub(crate) enum Piece<'a> {
+pub enum Piece<'a> {
     Word(&'a [u8]),
     Number(u64),
     Numbers(&'a [u64]),
-    /// Nothing, or `by` and the numbers.
-    By(&'a [u64]),
+    /// Nothing, or `by` and the numbers of members.
+    By(&'a [u32]),
     YesNo(bool),
     /// `no`, or `yes`, the word and the number.
     YesWith(&'a [u8], Option<u64>),

@@ -10,11 +10,7 @@ use fm_text::push_poly;
 use std::alloc::AllocError;
 
 /// Appends a blank and a vector.
-pub(crate) fn push_vector(
-    names: &[String],
-    entries: &[Poly],
-    out: &mut Vec<u8>,
-) -> Result<(), AllocError>
+pub fn push_vector(names: &[String], entries: &[Poly], out: &mut Vec<u8>) -> Result<(), AllocError>
     requires { AreOverVariables (length names.now) entries.now }
     ensures { OnOk result (out.new.items
         ≡ out.old.items ++ joined 32 true (vector_of_texts (map (polynomial_word (map string_bytes names.now)) entries.now) ∷ [])) }

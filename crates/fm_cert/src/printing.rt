@@ -15,7 +15,7 @@ use itoa::Buffer;
 use std::alloc::AllocError;
 
 /// Appends a line: its first word, its pieces, and LF.
-pub(crate) fn push_row(
+pub fn push_row(
     names: &[String],
     first: &[u8],
     rest: &[Piece<'_>],
@@ -48,7 +48,7 @@ fn push_piece(names: &[String], piece: &Piece<'_>, out: &mut Vec<u8>) -> Result<
         Piece::Word(word) => push_word(word, out)?,
         Piece::Number(n) => push_number(*n, out)?,
         Piece::Numbers(numbers) => push_numbers(numbers, out)?,
-        Piece::By(numbers) => push_by(numbers, out)?,
+        Piece::By(members) => push_by(members, out)?,
         Piece::YesNo(yes) => push_word(yes_word(*yes), out)?,
         Piece::YesWith(word, n) => push_yes_with(word, *n, out)?,
         Piece::Keep(keep) => push_word(keep_word(*keep), out)?,
@@ -94,15 +94,28 @@ fn push_numbers(numbers: &[u64], out: &mut Vec<u8>) -> Result<(), AllocError>
     }
 }
 
-fn push_by(numbers: &[u64], out: &mut Vec<u8>) -> Result<(), AllocError>
-    ensures { OnOk result (out.new.items ≡ out.old.items ++ joined 32 true (by_words numbers.now)) }
+fn push_by(members: &[u32], out: &mut Vec<u8>) -> Result<(), AllocError>
+    ensures { OnOk result (out.new.items ≡ out.old.items ++ joined 32 true (by_words members.now)) }
 {
-    if numbers.is_empty() {
+    if members.is_empty() {
         return Ok(());
     }
     push_word(b"by", out)?;
-    push_numbers(numbers, out)?;
+    push_members(members, out)?;
     Ok(())
+}
+
+fn push_members(members: &[u32], out: &mut Vec<u8>) -> Result<(), AllocError>
+    ensures { OnOk result (out.new.items ≡ out.old.items ++ joined 32 true (map decimal members.now)) }
+{
+    let mut left = members;
+    'members: loop {
+        let Some((member, rest)) = left.split_first() else {
+            return Ok(());
+        };
+        push_number(u64::from(*member), out)?;
+        left = rest;
+    }
 }
 
 fn yes_word(yes: bool) -> &'static [u8]

@@ -111,7 +111,7 @@ fn ends_without_an_answer(rt: HostRuntime) -> Result<(), Fail> {
 fn head(alloc: Global) -> Result<Vec<u8>, AllocError> {
     let problem = problem(alloc)?;
     let mut out = Vec::new(alloc);
-    push_head(&problem, &mut out)?;
+    push_head(&problem, 0, &mut out)?;
     push_query(&problem, 1, &Query::Zero { i: 2, ideal: 1 }, &mut out)?;
     push_query(
         &problem,

@@ -11,16 +11,17 @@ use Rattle.fm_cert.specs.Ends.{end_kind, end_values}
 use Rattle.fm_report.specs.Reports.{QueryReport}
 use Rattle.fm_decide.specs.declared.counts.Counts.{Counts}
 use Rattle.fm_decide.specs.declared.ended.Answer.{Answer}
-use Rattle.fm_decide.specs.Given.{answer_report}
-use Rattle.fm_answers.specs.Answers.{is_unanswered, query_report, query_reports}
+use Rattle.fm_decide.specs.Given.{IsAnswerOf, report_with}
+use Rattle.fm_answers.specs.Answers.{is_unanswered}
+use Rattle.fm_certificates.specs.Reports.{certified_report, certified_reports}
 use Rattle.fm_decide.specs.Counts.{says_yes, says_no, yes_count, no_count, unanswered_count, counts_of}
 
 module _ (units : ℕ) (q : Problem) where
   -- these counts and those of the queries that are left make the whole
   pub record IsCountLeft (c : Counts) (left : List Query) : Type 0 where
-    pub yes : c.yes + yes_count (query_reports units q left) ≡ yes_count (query_reports units q q.queries)
-    pub no : c.no + no_count (query_reports units q left) ≡ no_count (query_reports units q q.queries)
-    pub unanswered : c.unanswered + unanswered_count (query_reports units q left) ≡ unanswered_count (query_reports units q q.queries)
+    pub yes : c.yes + yes_count (certified_reports units q left) ≡ yes_count (certified_reports units q q.queries)
+    pub no : c.no + no_count (certified_reports units q left) ≡ no_count (certified_reports units q q.queries)
+    pub unanswered : c.unanswered + unanswered_count (certified_reports units q left) ≡ unanswered_count (certified_reports units q q.queries)
     pub asked : All (IsQueryOf q) left
 
   -- the counts of one more report
@@ -39,16 +40,16 @@ module _ (units : ℕ) (q : Problem) where
 
   -- one more query is counted
   pub one_more : (z : Query) (rest left : List Query) (a : Answer) (c : Counts) (k l m : ℕ) → left ≡ z ∷ rest
-      → answer_report q z a ≡ query_report units q z → k ≡ from_bool (says_yes (end_kind a.end) (end_values a.end))
+      → IsAnswerOf q z a (certified_report units q z) → k ≡ from_bool (says_yes (end_kind a.end) (end_values a.end))
       → l ≡ from_bool (says_no (end_kind a.end) (end_values a.end)) → m ≡ from_bool (is_unanswered (end_kind a.end))
       → IsCountLeft c left → IsCountLeft (record { yes = c.yes + k; no = c.no + l; unanswered = c.unanswered + m }) rest
   one_more z rest left a c k l m e g y n u h =
-      let b : QueryReport = answer_report q z a in
-      let cut : query_reports units q left ≡ b ∷ query_reports units q rest = ap (query_reports units q) e ∙ ap (λ x. x ∷ query_reports units q rest) (sym g) in
+      let b : QueryReport = report_with z a (certified_report units q z).lines in
+      let cut : certified_reports units q left ≡ b ∷ certified_reports units q rest = ap (certified_reports units q) e ∙ ap (λ x. x ∷ certified_reports units q rest) (sym g.report) in
       record {
-        yes = counted (λ x. says_yes x.kind x.values) (query_reports units q left) (query_reports units q rest) (query_reports units q q.queries) b c.yes k cut y h.yes;
-        no = counted (λ x. says_no x.kind x.values) (query_reports units q left) (query_reports units q rest) (query_reports units q q.queries) b c.no l cut n h.no;
-        unanswered = counted (λ x. is_unanswered x.kind) (query_reports units q left) (query_reports units q rest) (query_reports units q q.queries) b c.unanswered m cut u h.unanswered;
+        yes = counted (λ x. says_yes x.kind x.values) (certified_reports units q left) (certified_reports units q rest) (certified_reports units q q.queries) b c.yes k cut y h.yes;
+        no = counted (λ x. says_no x.kind x.values) (certified_reports units q left) (certified_reports units q rest) (certified_reports units q q.queries) b c.no l cut n h.no;
+        unanswered = counted (λ x. is_unanswered x.kind) (certified_reports units q left) (certified_reports units q rest) (certified_reports units q q.queries) b c.unanswered m cut u h.unanswered;
         asked = All-tail (IsQueryOf q) z rest (subst (All (IsQueryOf q)) e h.asked);
       }
 
@@ -57,20 +58,20 @@ module _ (units : ℕ) (q : Problem) where
   none_left p [] n whole e h = omega (arith, h)
   none_left p (b ∷ bs) n whole e h = absurd (omega (arith, e))
 
-  pub all_counted : (left : List Query) (c : Counts) → length left ≡ 0 → IsCountLeft c left → c ≡ counts_of (query_reports units q q.queries)
+  pub all_counted : (left : List Query) (c : Counts) → length left ≡ 0 → IsCountLeft c left → c ≡ counts_of (certified_reports units q q.queries)
   all_counted left c none h =
-      let empty : length (query_reports units q left) ≡ 0 = length-map left (query_report units q) ∙ none in
-      same c (none_left _ (query_reports units q left) c.yes _ empty h.yes) (none_left _ (query_reports units q left) c.no _ empty h.no)
-      (none_left _ (query_reports units q left) c.unanswered _ empty h.unanswered)
+      let empty : length (certified_reports units q left) ≡ 0 = length-map left (certified_report units q) ∙ none in
+      same c (none_left _ (certified_reports units q left) c.yes _ empty h.yes) (none_left _ (certified_reports units q left) c.no _ empty h.no)
+      (none_left _ (certified_reports units q left) c.unanswered _ empty h.unanswered)
     where
-      same : (c : Counts) → c.yes ≡ yes_count (query_reports units q q.queries) → c.no ≡ no_count (query_reports units q q.queries)
-          → c.unanswered ≡ unanswered_count (query_reports units q q.queries) → c ≡ counts_of (query_reports units q q.queries)
+      same : (c : Counts) → c.yes ≡ yes_count (certified_reports units q q.queries) → c.no ≡ no_count (certified_reports units q q.queries)
+          → c.unanswered ≡ unanswered_count (certified_reports units q q.queries) → c ≡ counts_of (certified_reports units q q.queries)
       same c i j k = rw (sym i, sym j, sym k) refl
 
   -- no count passes the number of queries
-  pub count_fits : (p : QueryReport → Bool) (left : List Query) (n : ℕ) → IsProblem q → n + count_by p (query_reports units q left) ≡ count_by p (query_reports units q q.queries) → n ≤ 1000
+  pub count_fits : (p : QueryReport → Bool) (left : List Query) (n : ℕ) → IsProblem q → n + count_by p (certified_reports units q left) ≡ count_by p (certified_reports units q q.queries) → n ≤ 1000
   count_fits p left n sound h =
       let few = sound.few_queries in
-      let most = count_by-le-length p (query_reports units q q.queries) in
-      let long : length (query_reports units q q.queries) ≡ length q.queries = length-map q.queries (query_report units q) in
+      let most = count_by-le-length p (certified_reports units q q.queries) in
+      let long : length (certified_reports units q q.queries) ≡ length q.queries = length-map q.queries (certified_report units q) in
       omega (arith, few, most, long, h)

@@ -1,6 +1,5 @@
 -- The differentials of a resolution, and their ranks.
-use Rattle.std.proofs.Common.{◌≡◌, ◌∙◌, ℕ, zero, suc, ◌+◌, ◌<◌, List, [], ◌∷◌, ◌++◌, map, length, get_or, refl, sym, ap, ap₂, subst, append_assoc, append-nil, arith, Result, Ok, Err}
-use Rattle.std.specs.Prelude.{OnOk}
+use Rattle.std.proofs.Common.{◌≡◌, ◌∙◌, ℕ, zero, suc, ◌+◌, ◌<◌, List, [], ◌∷◌, ◌++◌, map, length, get_or, refl, sym, ap, ap₂, subst, append-nil, arith}
 use Rattle.std.proofs.lemmas.List.{ext_get_or, get_or-map, length-map, nil_from_length}
 use Rattle.fm_gfp.specs.declared.prime.Prime.{Prime}
 use Rattle.fm_algebra.specs.Matrix.{listed}
@@ -8,18 +7,13 @@ use Rattle.fm_algebra.specs.PolynomialMatrices.{PolynomialMatrix, matrix_zero}
 use Rattle.fm_algebra.proofs.Tables.{get_or-listed, length-listed}
 use Rattle.fm_limit.specs.ResolvedIdeal.{matrix_at, rank}
 use Rattle.fm_poly.specs.declared.ring.Ring.{Ring}
-use Rattle.fm_lift.specs.Lifts.{AreMatricesOver}
 use Rattle.fm_mat.specs.Matrices.{MatrixValue, column_meaning, matrix_meaning}
-use Rattle.fm_cert.specs.Kinds as kinds
-use Rattle.fm_cert.specs.Lines.{Row}
-use Rattle.fm_cert.specs.Naming.{Naming, differentials}
-use Rattle.fm_answers.specs.Printed.{grid_of, grids_of, resolution_namings}
 use Rattle.fm_graphs.specs.Graphs.{Graph}
 use Rattle.fm_graphs.specs.Trims.{Preimage}
 use Rattle.fm_plan.specs.Results.{differentials_of}
 use Rattle.fm_syz.specs.GraphValues.{GraphValue}
 use Rattle.fm_syz.specs.GeneratorValues.{GeneratorsValue}
-use Rattle.fm_resolve.specs.Resolutions.{AreExactFrom, IsResolution, ResolutionValue, generators_from, resolution_value}
+use Rattle.fm_resolve.specs.Resolutions.{ResolutionValue, generators_from, resolution_value}
 
 abbrev pub matrices_of : List GeneratorsValue → List MatrixValue
 matrices_of xs = map (λ (x : GeneratorsValue). x.graph.matrix) xs
@@ -32,13 +26,6 @@ module _ (r : Ring) where
 
   pub differentials_are : (x : ResolutionValue) → differentials_of r (resolution_value r x) ≡ matrix_meaning r x.first.matrix ∷ map (matrix_meaning r) (matrices_of x.next)
   differentials_are x = ap (λ ms. matrix_meaning r x.first.matrix ∷ ms) (from_graph x.first x.next)
-
-  over_from : (g : GraphValue) (xs : List GeneratorsValue) → g.matrix.ring ≡ r → AreExactFrom g xs → AreMatricesOver r (matrices_of xs)
-  over_from g [] e h = tt
-  over_from g (x ∷ xs) e h = let one = h.0.generators.graph_ring ∙ e in (one, over_from x.graph xs one h.1)
-
-  pub next_over : (x : ResolutionValue) → x.first.matrix.ring ≡ r → IsResolution x → AreMatricesOver r (matrices_of x.next)
-  next_over x e h = over_from x.first x.next e h.exact
 
 module _ (p : Prime) (n : ℕ) where
   -- 1, and the numbers of columns of d_1, d_2, ..
@@ -87,22 +74,3 @@ pub ranks_done : (r : Ring) (x : ResolutionValue) (left : List GeneratorsValue) 
     → ranks ≡ listed (length x.next + 2) (rank r.prime r.vars (differentials_of r (resolution_value r x)))
 ranks_done r x left ranks e h =
     sym (append-nil ranks) ∙ ap (λ l. ranks ++ widths_of l) (sym (nil_from_length left e)) ∙ h ∙ ranks_found r x
-
--- the names of all differentials
-pub resolution_named : (r : Ring) (x : ResolutionValue) (v0 v1 v2 : List Naming)
-    → v1 ≡ v0 ++ record { line = λ k. Row kinds.D (1, (k, tt)); grid = grid_of r (matrix_meaning r x.first.matrix) } ∷ []
-    → v2 ≡ v1 ++ differentials 2 (grids_of r (map (matrix_meaning r) (matrices_of x.next))) → v2 ≡ v0 ++ resolution_namings r (resolution_value r x)
-resolution_named r x v0 v1 v2 e1 e2 =
-    let first : Naming = record { line = λ k. Row kinds.D (1, (k, tt)); grid = grid_of r (matrix_meaning r x.first.matrix) } in
-    let rest = differentials 2 (grids_of r (map (matrix_meaning r) (matrices_of x.next))) in
-    e2 ∙ ap (λ v. v ++ rest) e1 ∙ append_assoc v0 (first ∷ []) rest ∙ ap (λ ds. v0 ++ differentials 1 (grids_of r ds)) (sym (differentials_are r x))
-
-pub named_all : {E : Type 0} (x : ResolutionValue) (v0 v1 v2 : List Naming) (result : Result (Unit {0}) E) (r : Ring) {m : MatrixValue} {next : List GeneratorsValue} → x.first.matrix.ring ≡ r
-    → next ≡ x.next → m ≡ x.first.matrix → v1 ≡ v0 ++ record { line = λ k. Row kinds.D (1, (k, tt)); grid = grid_of r (matrix_meaning r m) } ∷ []
-    → OnOk result (v2 ≡ v1 ++ differentials 2 (grids_of r (map (matrix_meaning r) (matrices_of next))))
-    → OnOk result (let r = x.first.matrix.ring in v2 ≡ v0 ++ resolution_namings r (resolution_value r x))
-named_all x v0 v1 v2 (Err e) r ring n m one h = h
-named_all x v0 v1 v2 (Ok y) r ring n m one h =
-    let first = one ∙ ap (λ (m : MatrixValue). v0 ++ record { line = λ k. Row kinds.D (1, (k, tt)); grid = grid_of r (matrix_meaning r m) } ∷ []) m in
-    let rest = h ∙ ap (λ xs. v1 ++ differentials 2 (grids_of r (map (matrix_meaning r) (matrices_of xs)))) n in
-    subst (λ (r : Ring). v2 ≡ v0 ++ resolution_namings r (resolution_value r x)) (sym ring) (resolution_named r x v0 v1 v2 first rest)

@@ -1,5 +1,5 @@
 -- Counts of how queries end.
-use Rattle.std.specs.Prelude.{ℕ, Bool, true, false, not, List, is_some, count_by}
+use Rattle.std.specs.Prelude.{ℕ, Bool, false, not, List, is_some, count_by}
 use Rattle.fm_cert.specs.Fields.{Values}
 use Rattle.fm_cert.specs.Kinds.{EndKind, end_row}
 use Rattle.fm_cert.specs.Kinds as kinds

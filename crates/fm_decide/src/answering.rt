@@ -3,10 +3,12 @@ ghost use Rattle.std.specs.Prelude.{IfOk, OnOk, not, true, ◌++◌, ◌<◌, �
 ghost use Rattle.fm_cert.specs.Ends.{end_kind};
 ghost use Rattle.fm_cert.specs.Lines.{lines_text};
 ghost use Rattle.fm_cert.specs.Said.{IsQueryOver};
-ghost use Rattle.fm_answers.specs.Answers.{are_answered, is_unanswered, query_report, query_reports, report_bytes};
-ghost use Rattle.fm_decide.specs.Given.{IsAnswerOver, answer_report};
+ghost use Rattle.fm_answers.specs.Answers.{are_answered, is_unanswered};
+ghost use Rattle.fm_cert.specs.Said.{IsEndOver};
+ghost use Rattle.fm_certificates.specs.Reports.{AreSmallReports, certified_bytes, certified_report, certified_reports};
+ghost use Rattle.fm_decide.specs.Given.{IsAnswerOf};
 ghost use Rattle.fm_problem.specs.Sound.{IsProblem, IsQueryOf};
-ghost use Rattle.fm_report.specs.Reports.{block_lines, query_lines};
+ghost use Rattle.fm_report.specs.Reports.{QueryReport, block_lines, query_lines};
 
 use crate::Answers;
 use crate::class::answer_class;
@@ -19,18 +21,19 @@ use crate::resolution::answer_resolution;
 use crate::root::answer_root;
 use crate::support::answer_support;
 use crate::zero::answer_zero;
-use fm_cert::{End, Line, push_head, push_lines, push_query};
+use fm_cert::{End, Line, push_head, push_query};
 use fm_problem::{Problem, Query};
 use std::alloc::{AllocError, Global};
 
 /// The report on the queries of a problem, with this number of units for each plan.
 pub fn answer(alloc: Global, problem: &Problem, units: u32) -> Result<Answers, AllocError>
     requires { IsProblem problem.now }
-    ensures report { IfOk result (λ a. a.report.items ≡ report_bytes units problem.now) }
-    ensures all { IfOk result (λ a. a.all ≡ are_answered (query_reports units problem.now problem.now.queries)) }
+    ensures report { IfOk result (λ a. a.report.items ≡ certified_bytes units problem.now) }
+    ensures small { IfOk result (λ a. AreSmallReports (certified_reports units problem.now problem.now.queries)) }
+    ensures all { IfOk result (λ a. a.all ≡ are_answered (certified_reports units problem.now problem.now.queries)) }
 {
     let mut report = Vec::new(alloc);
-    push_head(problem, &mut report)?;
+    push_head(problem, 2, &mut report)?;
     let all = push_queries(alloc, problem, units, &mut report)?;
     Line::EndReport.push(problem, &mut report)?;
     Ok(Answers { all, report })
@@ -44,9 +47,10 @@ fn push_queries(
     out: &mut Vec<u8>,
 ) -> Result<bool, AllocError>
     requires { IsProblem problem.now }
-    ensures all { IfOk result (λ all. all ≡ are_answered (query_reports units problem.now problem.now.queries)) }
+    ensures all { IfOk result (λ all. all ≡ are_answered (certified_reports units problem.now problem.now.queries)) }
+    ensures small { IfOk result (λ all. AreSmallReports (certified_reports units problem.now problem.now.queries)) }
     ensures text { OnOk result (out.new.items
-        ≡ out.old.items ++ lines_text problem.now.vars (query_lines problem.now 1 (query_reports units problem.now problem.now.queries))) }
+        ≡ out.old.items ++ lines_text problem.now.vars (query_lines problem.now 1 (certified_reports units problem.now problem.now.queries))) }
 {
     let mut all = true;
     let mut number = 0;
@@ -73,8 +77,8 @@ pub(crate) fn answer_query(
 ) -> Result<Answer, AllocError>
     requires problem { IsProblem problem.now }
     requires query { IsQueryOf problem.now query.now }
-    ensures value { IfOk result (λ a. answer_report problem.now query.now a ≡ query_report units problem.now query.now) }
-    ensures over { IfOk result (IsAnswerOver problem.now.ring.vars) }
+    ensures value { IfOk result (λ a. IsAnswerOf problem.now query.now a (certified_report units problem.now query.now)) }
+    ensures over { IfOk result (λ a. IsEndOver problem.now.ring.vars a.end) }
 {
     match query {
         Query::Zero { i, ideal } => answer_zero(alloc, problem, units, *i, *ideal),
@@ -101,13 +105,13 @@ fn push_block<'x>(
 ) -> Result<(), AllocError>
     requires problem { IsProblem problem.now }
     requires query { IsQueryOver problem.now.ring.vars query.now }
-    requires over { IsAnswerOver problem.now.ring.vars answer.now }
-    ensures { OnOk result (out.new.items
-        ≡ out.old.items ++ lines_text problem.now.vars (block_lines problem.now number (answer_report problem.now query.now answer.now))) }
+    requires over { IsEndOver problem.now.ring.vars answer.now.end }
+    ensures { (b : QueryReport) → IsAnswerOf problem.now query.now answer.now b
+        → OnOk result (out.new.items ≡ out.old.items ++ lines_text problem.now.vars (block_lines problem.now number b)) }
 {
     push_query(problem, number, query, out)?;
     answer.end.push(problem, out)?;
-    push_lines(problem, &answer.lines, out)?;
+    out.extend_from_slice(&answer.certificate)?;
     Line::Done { number }.push(problem, out)?;
     Ok(())
 }

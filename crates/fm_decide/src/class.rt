@@ -1,17 +1,18 @@
 // The answers to queries on classes.
 ghost use Rattle.std.specs.Prelude.{IfOk, IfSome, ◌<◌, ◌^◌, ◌≡◌};
-ghost use Rattle.fm_answers.specs.Answers.{query_report};
 ghost use Rattle.fm_chain.specs.Stages.{killed_value};
-ghost use Rattle.fm_decide.specs.Given.{IsAnswerOver, answer_report};
+ghost use Rattle.fm_cert.specs.Said.{IsEndOver};
+ghost use Rattle.fm_certificates.specs.Reports.{certified_report};
+ghost use Rattle.fm_decide.specs.Given.{IsAnswerOf};
 ghost use Rattle.fm_ext.specs.Exts.{ring_of};
 ghost use Rattle.fm_plan.specs.Queries.{stage_of};
 ghost use Rattle.fm_problem.specs.Sound.{IsProblem, IsQueryOf};
 ghost use Rattle.fm_problem.specs.declared.query.Query.TheVariants as queries;
 
-use crate::blocks::base_lines;
 use crate::ended::{Answer, unanswered_answer};
 use crate::ideals::generators;
 use fm_cert::End;
+use fm_certify::certify_class;
 use fm_chain::Killed;
 use fm_poly::Poly;
 use fm_problem::Problem;
@@ -34,9 +35,8 @@ pub(crate) fn answer_class(
 ) -> Result<Answer, AllocError>
     requires problem { IsProblem problem.now }
     requires query { IsQueryOf problem.now (queries.Class i ideal e z.now) }
-    ensures value { IfOk result (λ a. answer_report problem.now (queries.Class i ideal e z.now) a
-        ≡ query_report units problem.now (queries.Class i ideal e z.now)) }
-    ensures over { IfOk result (IsAnswerOver problem.now.ring.vars) }
+    ensures value { let z = (queries.Class i ideal e z.now) in IfOk result (λ a. IsAnswerOf problem.now z a (certified_report units problem.now z)) }
+    ensures over { IfOk result (λ a. IsEndOver problem.now.ring.vars a.end) }
 {
     if z.len() > LONGEST {
         return Err(AllocError);
@@ -45,11 +45,11 @@ pub(crate) fn answer_class(
     let mut work = Work::new(units);
     match decide_class(alloc, problem.ring, generators, i, e, z, &mut work) {
         Ok(found) => {
-            let lines = base_lines(alloc, problem, ideal, i, &found.base)?;
+            let certificate = certify_class(alloc, problem, ideal, i, &found)?;
             let end = End::Class {
                 stage: first_stage(e, &found),
             };
-            Ok(Answer { end, lines })
+            Ok(Answer { end, certificate })
         }
         Err(ended) => unanswered_answer(alloc, ended),
     }

@@ -1,7 +1,8 @@
 // Counts of how the queries of a problem end.
 ghost use Rattle.std.specs.Prelude.{IfOk, ◌≡◌};
 ghost use Rattle.fm_cert.specs.Ends.{end_kind, end_values};
-ghost use Rattle.fm_answers.specs.Answers.{is_unanswered as ends_unanswered, query_reports};
+ghost use Rattle.fm_answers.specs.Answers.{is_unanswered as ends_unanswered};
+ghost use Rattle.fm_certificates.specs.Reports.{certified_reports};
 ghost use Rattle.fm_decide.specs.Counts.{counts_of, says_no as answers_no, says_yes as answers_yes};
 ghost use Rattle.fm_problem.specs.Sound.{IsProblem};
 
@@ -14,7 +15,7 @@ use std::alloc::{AllocError, Global};
 /// Answers each query of a problem with this number of units for its plan, and counts how they end. It keeps no answer.
 pub fn count(alloc: Global, problem: &Problem, units: u32) -> Result<Counts, AllocError>
     requires { IsProblem problem.now }
-    ensures { IfOk result (λ c. c ≡ counts_of (query_reports units problem.now problem.now.queries)) }
+    ensures { IfOk result (λ c. c ≡ counts_of (certified_reports units problem.now problem.now.queries)) }
 {
     let mut counts = Counts {
         yes: 0,

@@ -1,14 +1,15 @@
 // The answers to queries on Ext.
 ghost use Rattle.std.specs.Prelude.{IfOk, length, ◌≡◌};
-ghost use Rattle.fm_answers.specs.Answers.{query_report};
-ghost use Rattle.fm_decide.specs.Given.{IsAnswerOver, answer_report};
+ghost use Rattle.fm_cert.specs.Said.{IsEndOver};
+ghost use Rattle.fm_certificates.specs.Reports.{certified_report};
+ghost use Rattle.fm_decide.specs.Given.{IsAnswerOf};
 ghost use Rattle.fm_problem.specs.Sound.{IsProblem, IsQueryOf};
 ghost use Rattle.fm_problem.specs.declared.query.Query.TheVariants as queries;
 
-use crate::blocks::{one_block, push_ext};
 use crate::ended::{Answer, stopped_answer};
 use crate::ideals::generators;
 use fm_cert::End;
+use fm_certify::certify_ext;
 use fm_ext::ext;
 use fm_problem::Problem;
 use fm_resolve::resolve;
@@ -25,9 +26,8 @@ pub(crate) fn answer_ext(
 ) -> Result<Answer, AllocError>
     requires problem { IsProblem problem.now }
     requires query { IsQueryOf problem.now (queries.ExtOf i ideal) }
-    ensures value { IfOk result (λ a. answer_report problem.now (queries.ExtOf i ideal) a
-        ≡ query_report units problem.now (queries.ExtOf i ideal)) }
-    ensures over { IfOk result (IsAnswerOver problem.now.ring.vars) }
+    ensures value { let z = (queries.ExtOf i ideal) in IfOk result (λ a. IsAnswerOf problem.now z a (certified_report units problem.now z)) }
+    ensures over { IfOk result (λ a. IsEndOver problem.now.ring.vars a.end) }
 {
     let generators = generators(problem, ideal);
     let mut work = Work::new(units);
@@ -37,14 +37,12 @@ pub(crate) fn answer_ext(
     };
     match ext(alloc, Side::Alone, x, i, &mut work) {
         Ok(y) => {
-            let mut namings = Vec::new(alloc);
-            push_ext(alloc, &y, &mut namings)?;
-            let lines = one_block(alloc, problem, ideal, i, namings)?;
+            let certificate = certify_ext(alloc, problem, ideal, i, &y)?;
             let end = End::ExtOf {
                 generators: u64::from(y.cocycles().generators().found().cols()),
                 relations: u64::from(y.relations().generators().found().cols()),
             };
-            Ok(Answer { end, lines })
+            Ok(Answer { end, certificate })
         }
         Err(stopped) => stopped_answer(alloc, stopped),
     }

@@ -4,7 +4,6 @@
 
 mod answering;
 mod answers;
-mod blocks;
 mod class;
 mod counting;
 mod counts;
@@ -18,7 +17,6 @@ mod member;
 mod printing;
 mod resolution;
 mod root;
-mod series;
 mod support;
 mod zero;
 

@@ -1,14 +1,15 @@
 // The answers to queries on membership.
 ghost use Rattle.std.specs.Prelude.{IfOk, ◌≡◌};
-ghost use Rattle.fm_answers.specs.Answers.{query_report};
-ghost use Rattle.fm_decide.specs.Given.{IsAnswerOver, answer_report};
+ghost use Rattle.fm_cert.specs.Said.{IsEndOver};
+ghost use Rattle.fm_certificates.specs.Reports.{certified_report};
+ghost use Rattle.fm_decide.specs.Given.{IsAnswerOf};
 ghost use Rattle.fm_problem.specs.Sound.{IsProblem, IsQueryOf};
 ghost use Rattle.fm_problem.specs.declared.query.Query.TheVariants as queries;
 
 use crate::ended::{Answer, is_inside, stopped_answer};
 use crate::ideals::generators;
-use crate::series::push_matrix;
-use fm_cert::{End, Forms, Slot};
+use fm_cert::End;
+use fm_certify::certify_member;
 use fm_poly::Poly;
 use fm_problem::Problem;
 use fm_resolve::decide_member;
@@ -25,23 +26,18 @@ pub(crate) fn answer_member(
 ) -> Result<Answer, AllocError>
     requires problem { IsProblem problem.now }
     requires query { IsQueryOf problem.now (queries.Member ideal f.now) }
-    ensures value { IfOk result (λ a. answer_report problem.now (queries.Member ideal f.now) a
-        ≡ query_report units problem.now (queries.Member ideal f.now)) }
-    ensures over { IfOk result (IsAnswerOver problem.now.ring.vars) }
+    ensures value { let z = (queries.Member ideal f.now) in IfOk result (λ a. IsAnswerOf problem.now z a (certified_report units problem.now z)) }
+    ensures over { IfOk result (λ a. IsEndOver problem.now.ring.vars a.end) }
 {
     let generators = generators(problem, ideal);
     let mut work = Work::new(units);
     match decide_member(alloc, problem.ring, generators, f, &mut work) {
         Ok(found) => {
-            let d_1 = found.first.matrix();
-            let mut namings = Vec::new(alloc);
-            push_matrix(alloc, Slot::D { j: 1 }, problem.ring, d_1, &mut namings)?;
-            let mut lines = Vec::new(alloc);
-            Forms::new(alloc).push_names(alloc, problem, namings, &mut lines)?;
+            let certificate = certify_member(alloc, problem, ideal, &found)?;
             let yes = is_inside(&found.inside);
             Ok(Answer {
                 end: End::Member { yes },
-                lines,
+                certificate,
             })
         }
         Err(stopped) => stopped_answer(alloc, stopped),

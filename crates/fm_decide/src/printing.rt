@@ -1,4 +1,4 @@
-// Matrices as they are printed.
+// The entries of a row as they are printed.
 ghost use Rattle.std.specs.Prelude.{IfOk, OnOk, map, ◌++◌, ◌≡◌};
 ghost use Rattle.fm_algebra.specs.Matrix.{component};
 ghost use Rattle.fm_algebra.specs.Polynomials.{polynomials};
@@ -14,61 +14,6 @@ use fm_cert::Grid;
 use fm_mat::{Column, Matrix};
 use fm_poly::{Poly, Ring};
 use std::alloc::{AllocError, Global};
-
-/// The matrix as it is printed. Its entries are copied.
-pub(crate) fn grid(alloc: Global, m: &Matrix) -> Result<Grid, AllocError>
-    ensures value { (r : Ring) → m.now.ring ≡ r → IfOk result (λ g. grid_value g ≡ grid_of r (matrix_meaning r m.now)) }
-    ensures over { IfOk result (λ g. AreColumnsOver m.now.ring.vars g.columns.items) }
-{
-    let columns = printed_columns(alloc, m.ring(), m.rows(), m.columns())?;
-    Ok(Grid {
-        rows: u64::from(m.rows()),
-        columns,
-    })
-}
-
-fn printed_columns(
-    alloc: Global,
-    ring: Ring,
-    rows: u32,
-    columns: &[Column],
-) -> Result<Vec<Vec<Poly>>, AllocError>
-    requires shape { AreColumns ring rows columns.now }
-    ensures value { IfOk result (λ out. columns_of out.items ≡ map (printed_vector ring) (columns_meaning ring columns.now)) }
-    ensures over { IfOk result (λ out. AreColumnsOver ring.vars out.items) }
-{
-    let mut out = Vec::with_capacity(alloc, columns.len())?;
-    let mut left = columns;
-    'columns: loop {
-        let Some((column, later)) = left.split_first() else {
-            return Ok(out);
-        };
-        out.push(printed_entries(alloc, ring, column.entries())?)?;
-        left = later;
-    }
-}
-
-/// Copies of polynomials, as they are printed.
-pub(crate) fn printed_entries(
-    alloc: Global,
-    ring: Ring,
-    entries: &[Poly],
-) -> Result<Vec<Poly>, AllocError>
-    requires over { AreOver ring entries.now }
-    ensures value { IfOk result (λ out. out.items ≡ printed_vector ring (column_meaning ring entries.now)) }
-    ensures over { IfOk result (λ out. AreOverVariables ring.vars out.items) }
-{
-    let mut out = Vec::with_capacity(alloc, entries.len())?;
-    let mut left = entries;
-    'entries: loop {
-        let Some((entry, later)) = left.split_first() else {
-            return Ok(out);
-        };
-        let _terms = entry.terms();
-        out.push(entry.copy(alloc)?)?;
-        left = later;
-    }
-}
 
 /// The first entry of each column, as it is printed.
 pub(crate) fn first_entries(alloc: Global, m: &Matrix) -> Result<Vec<Poly>, AllocError>

@@ -1,18 +1,19 @@
 // The answers to queries on resolutions.
 ghost use Rattle.std.specs.Prelude.{IfOk, length, ◌+◌, ◌<◌, ◌≡◌};
 ghost use Rattle.fm_algebra.specs.Matrix.{listed};
-ghost use Rattle.fm_answers.specs.Answers.{query_report};
-ghost use Rattle.fm_decide.specs.Given.{IsAnswerOver, answer_report};
+ghost use Rattle.fm_cert.specs.Said.{IsEndOver};
+ghost use Rattle.fm_certificates.specs.Reports.{certified_report};
+ghost use Rattle.fm_decide.specs.Given.{IsAnswerOf};
 ghost use Rattle.fm_limit.specs.ResolvedIdeal.{rank};
 ghost use Rattle.fm_plan.specs.Results.{differentials_of};
 ghost use Rattle.fm_problem.specs.Sound.{IsProblem, IsQueryOf};
 ghost use Rattle.fm_problem.specs.declared.query.Query.TheVariants as queries;
 ghost use Rattle.fm_resolve.specs.Resolutions.{resolution_value};
 
-use crate::blocks::{one_block, push_resolution};
 use crate::ended::{Answer, stopped_answer};
 use crate::ideals::generators;
 use fm_cert::End;
+use fm_certify::certify_resolution;
 use fm_problem::Problem;
 use fm_resolve::{Resolution, resolve};
 use fm_run::{Side, Work};
@@ -28,21 +29,18 @@ pub(crate) fn answer_resolution(
 ) -> Result<Answer, AllocError>
     requires problem { IsProblem problem.now }
     requires query { IsQueryOf problem.now (queries.Resolution i ideal) }
-    ensures value { IfOk result (λ a. answer_report problem.now (queries.Resolution i ideal) a
-        ≡ query_report units problem.now (queries.Resolution i ideal)) }
-    ensures over { IfOk result (IsAnswerOver problem.now.ring.vars) }
+    ensures value { let z = (queries.Resolution i ideal) in IfOk result (λ a. IsAnswerOf problem.now z a (certified_report units problem.now z)) }
+    ensures over { IfOk result (λ a. IsEndOver problem.now.ring.vars a.end) }
 {
     let generators = generators(problem, ideal);
     let mut work = Work::new(units);
     match resolve(alloc, Side::Alone, problem.ring, generators, i, &mut work) {
         Ok(x) => {
             let ranks = ranks(alloc, &x)?;
-            let mut namings = Vec::new(alloc);
-            push_resolution(alloc, &x, &mut namings)?;
-            let lines = one_block(alloc, problem, ideal, i, namings)?;
+            let certificate = certify_resolution(alloc, problem, ideal, i, &x)?;
             Ok(Answer {
                 end: End::Ranks { ranks },
-                lines,
+                certificate,
             })
         }
         Err(stopped) => stopped_answer(alloc, stopped),

@@ -1,14 +1,15 @@
 // The answers to queries on vanishing.
 ghost use Rattle.std.specs.Prelude.{IfOk, ◌≡◌};
-ghost use Rattle.fm_answers.specs.Answers.{query_report};
-ghost use Rattle.fm_decide.specs.Given.{IsAnswerOver, answer_report};
+ghost use Rattle.fm_cert.specs.Said.{IsEndOver};
+ghost use Rattle.fm_certificates.specs.Reports.{certified_report};
+ghost use Rattle.fm_decide.specs.Given.{IsAnswerOf};
 ghost use Rattle.fm_problem.specs.Sound.{IsProblem, IsQueryOf};
 ghost use Rattle.fm_problem.specs.declared.query.Query.TheVariants as queries;
 
-use crate::blocks::base_lines;
 use crate::ended::{Answer, is_inside, stopped_answer};
 use crate::ideals::generators;
 use fm_cert::End;
+use fm_certify::certify_zero;
 use fm_problem::Problem;
 use fm_queries::decide_zero;
 use fm_run::Work;
@@ -24,20 +25,19 @@ pub(crate) fn answer_zero(
 ) -> Result<Answer, AllocError>
     requires problem { IsProblem problem.now }
     requires query { IsQueryOf problem.now (queries.Zero i ideal) }
-    ensures value { IfOk result (λ a. answer_report problem.now (queries.Zero i ideal) a
-        ≡ query_report units problem.now (queries.Zero i ideal)) }
-    ensures over { IfOk result (IsAnswerOver problem.now.ring.vars) }
+    ensures value { let z = (queries.Zero i ideal) in IfOk result (λ a. IsAnswerOf problem.now z a (certified_report units problem.now z)) }
+    ensures over { IfOk result (λ a. IsEndOver problem.now.ring.vars a.end) }
 {
     let generators = generators(problem, ideal);
     let mut work = Work::new(units);
     match decide_zero(alloc, problem.ring, generators, i, &mut work) {
         Ok(found) => {
-            let lines = base_lines(alloc, problem, ideal, i, &found.base)?;
+            let certificate = certify_zero(alloc, problem, ideal, i, &found)?;
             let end = End::Zero {
                 yes: is_inside(&found.whole),
                 stable: found.base.chain().stable() as u64,
             };
-            Ok(Answer { end, lines })
+            Ok(Answer { end, certificate })
         }
         Err(stopped) => stopped_answer(alloc, stopped),
     }

@@ -1,5 +1,5 @@
 -- A written report states what its blocks say.
-use Rattle.std.proofs.Common.{◌≡◌, ℕ, suc, ◌<◌, ◌≤◌, Bool, true, List, [], ◌∷◌, ◌++◌, map, length, Some, None, All, refl, sym, ap, ap₂, ◌∙◌, subst, arith, append_assoc, append-nil}
+use Rattle.std.proofs.Common.{◌≡◌, ℕ, suc, ◌^◌, ◌<◌, ◌≤◌, Bool, true, List, [], ◌∷◌, ◌++◌, map, length, Some, None, All, refl, sym, ap, ap₂, ◌∙◌, subst, arith, append_assoc, append-nil}
 use Rattle.std.specs.List.{list_all}
 use Rattle.std.proofs.lemmas.Bool.{lt-ltb}
 use Rattle.std.proofs.lemmas.List.Elements.{All-head, All-tail}
@@ -33,7 +33,7 @@ names_named : (vs : List Bytes) → All IsShortName vs → list_all is_name vs �
 names_named [] s = refl
 names_named (m ∷ ms) s = Rattle.std.proofs.lemmas.Bool.and_from _ _ (All-head IsShortName m ms s).name (names_named ms (All-tail IsShortName m ms s))
 
-module _ (q : Problem) (sound : IsProblem q) (small : HasSmallExponents q) where
+module _ (version : ℕ) (low : version < 2 ^ 64) (q : Problem) (sound : IsProblem q) (small : HasSmallExponents q) where
   vs : List Bytes
   vs = q.vars
 
@@ -46,9 +46,9 @@ module _ (q : Problem) (sound : IsProblem q) (small : HasSmallExponents q) where
   first : Line
   first = Row kinds.Report (0, tt)
 
-  first_writable : IsWritableAfter q.vars blank (Row kinds.Report (0, tt))
+  first_writable : IsWritableAfter q.vars blank (Row kinds.Report (version, tt))
   unfolding blank say line_text AreNames
-  first_writable = record { named = refl; listed = refl; printed = refl; writable = (tt, (omega arith, tt)); next = blank; said = refl }
+  first_writable = record { named = refl; listed = refl; printed = refl; writable = (tt, (low, tt)); next = blank; said = refl }
 
   abbrev bare_problem : Problem
   bare_problem = bare q.ring.prime q.vars
@@ -120,12 +120,12 @@ module _ (q : Problem) (sound : IsProblem q) (small : HasSmallExponents q) where
   ideals_say s [] = refl
   ideals_say s (a ∷ is) = ideals_say (sheet_after s (say s (ideal_line q.vars a))) is
 
-  first_said : say blank (Row kinds.Report (0, tt)) ≡ Some blank
+  first_said : say blank (Row kinds.Report (version, tt)) ≡ Some blank
   unfolding blank say
   first_said = refl
 
   -- ---- the head
-  head_writable : AreWritable q.vars blank (head_lines q)
+  head_writable : AreWritable q.vars blank (head_lines version q)
   head_writable = (
     first_writable,
     subst (λ o. AreWritable q.vars (sheet_after blank o) (Head (RingLine (prime_value q.ring.prime) q.vars) ∷ Head (OrderLine q.ring.order) ∷ map (ideal_line q.vars) q.ideals)) (sym first_said) (
@@ -141,16 +141,16 @@ module _ (q : Problem) (sound : IsProblem q) (small : HasSmallExponents q) where
   unfolding between
   is_between = refl
 
-  head_after : after blank (head_lines q) ≡ between q 0
+  head_after : after blank (head_lines version q) ≡ between q 0
   head_after =
       ap (λ o. after (sheet_after blank o) (Head (RingLine (prime_value q.ring.prime) q.vars) ∷ Head (OrderLine q.ring.order) ∷ map (ideal_line q.vars) q.ideals)) first_said
       ∙ ap (λ o. after (sheet_after blank o) (Head (OrderLine q.ring.order) ∷ map (ideal_line q.vars) q.ideals)) ring_said
       ∙ ap (λ o. after (sheet_after (headed bare_problem) o) (map (ideal_line q.vars) q.ideals)) order_said
       ∙ ideals_after [] q.ideals refl sound.ideals small.ideals ∙ is_between
 
-  head_says : says blank (head_lines q) ≡ []
-  head_says = ideals_say (sheet_after (sheet_after (sheet_after blank (say blank (Row kinds.Report (0, tt)))) (say (sheet_after blank (say blank (Row kinds.Report (0, tt)))) (Head (RingLine (prime_value q.ring.prime) q.vars))))
-      (say (sheet_after (sheet_after blank (say blank (Row kinds.Report (0, tt)))) (say (sheet_after blank (say blank (Row kinds.Report (0, tt)))) (Head (RingLine (prime_value q.ring.prime) q.vars)))) (Head (OrderLine q.ring.order)))) q.ideals
+  head_says : says blank (head_lines version q) ≡ []
+  head_says = ideals_say (sheet_after (sheet_after (sheet_after blank (say blank (Row kinds.Report (version, tt)))) (say (sheet_after blank (say blank (Row kinds.Report (version, tt)))) (Head (RingLine (prime_value q.ring.prime) q.vars))))
+      (say (sheet_after (sheet_after blank (say blank (Row kinds.Report (version, tt)))) (say (sheet_after blank (say blank (Row kinds.Report (version, tt)))) (Head (RingLine (prime_value q.ring.prime) q.vars)))) (Head (OrderLine q.ring.order)))) q.ideals
 
   -- ---- the blocks
   end_writable : (k : ℕ) → AreWritable q.vars (between q k) (Row kinds.EndReport tt ∷ [])
@@ -172,23 +172,23 @@ module _ (q : Problem) (sound : IsProblem q) (small : HasSmallExponents q) where
       ∙ ap (λ s. block_says q k b ++ says s (query_lines q (suc (suc k)) bs ++ Row kinds.EndReport tt ∷ [])) w.0.ends
       ∙ ap (λ rest. block_says q k b ++ rest) (blocks_say (suc k) bs w.1)
 
-  report_writable : (bs : List QueryReport) → AreWritableBlocks q 0 bs → AreWritable q.vars blank (report_lines q bs)
+  report_writable : (bs : List QueryReport) → AreWritableBlocks q 0 bs → AreWritable q.vars blank (report_lines version q bs)
   report_writable bs w =
-      writable_append q.vars blank (head_lines q) (query_lines q 1 bs ++ Row kinds.EndReport tt ∷ []) head_writable
+      writable_append q.vars blank (head_lines version q) (query_lines q 1 bs ++ Row kinds.EndReport tt ∷ []) head_writable
       (subst (λ s. AreWritable q.vars s (query_lines q 1 bs ++ Row kinds.EndReport tt ∷ [])) (sym head_after) (blocks_writable 0 bs w))
 
-  lines_say : (bs : List QueryReport) → AreWritableBlocks q 0 bs → says blank (report_lines q bs) ≡ report_says q 0 bs
+  lines_say : (bs : List QueryReport) → AreWritableBlocks q 0 bs → says blank (report_lines version q bs) ≡ report_says q 0 bs
   lines_say bs w =
-      says_append blank (head_lines q) (query_lines q 1 bs ++ Row kinds.EndReport tt ∷ [])
+      says_append blank (head_lines version q) (query_lines q 1 bs ++ Row kinds.EndReport tt ∷ [])
       ∙ ap₂ (λ x s. x ++ says s (query_lines q 1 bs ++ Row kinds.EndReport tt ∷ [])) head_says head_after ∙ blocks_say 0 bs w
 
-  written : (bs : List QueryReport) → AreWritableBlocks q 0 bs → statements (report_text q bs) ≡ report_says q 0 bs
+  written : (bs : List QueryReport) → AreWritableBlocks q 0 bs → statements (report_text version q bs) ≡ report_says q 0 bs
   unfolding report_text
-  written bs w = text_states q.vars (report_lines q bs) (report_writable bs w) ∙ lines_say bs w
+  written bs w = text_states q.vars (report_lines version q bs) (report_writable bs w) ∙ lines_say bs w
 
-pub report_read : (q : Problem) (bs : List QueryReport) → IsWritable q bs → statements (report_text q bs) ≡ report_says q 0 bs
-report_read q bs w = written q w.problem w.exponents bs w.blocks
+pub report_read : (version : ℕ) (q : Problem) (bs : List QueryReport) → version < 2 ^ 64 → IsWritable q bs → statements (report_text version q bs) ≡ report_says q 0 bs
+report_read version q bs few w = written version few q w.problem w.exponents bs w.blocks
 
-pub report_holds : (q : Problem) (bs : List QueryReport) → IsWritable q bs → AllHold (report_says q 0 bs) → (front back : Bytes) → report_text q bs ≡ front ++ back → VerdictsHold front
+pub report_holds : (version : ℕ) (q : Problem) (bs : List QueryReport) → version < 2 ^ 64 → IsWritable q bs → AllHold (report_says q 0 bs) → (front back : Bytes) → report_text version q bs ≡ front ++ back → VerdictsHold front
 unfolding VerdictsHold
-report_holds q bs w h front back e = front_holds front back (subst VerdictsHold e (subst AllHold (sym (report_read q bs w)) h))
+report_holds version q bs few w h front back e = front_holds front back (subst VerdictsHold e (subst AllHold (sym (report_read version q bs few w)) h))

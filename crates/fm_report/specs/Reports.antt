@@ -34,12 +34,13 @@ abbrev pub query_lines : Problem → ℕ → List QueryReport → List Line
 query_lines q k [] = []
 query_lines q k (b ∷ bs) = block_lines q k b ++ query_lines q (suc k) bs
 
-abbrev pub report_lines : Problem → List QueryReport → List Line
-report_lines q bs = head_lines q ++ (query_lines q 1 bs ++ Row kinds.EndReport tt ∷ [])
+-- those of a report of this version
+abbrev pub report_lines : ℕ → Problem → List QueryReport → List Line
+report_lines version q bs = head_lines version q ++ (query_lines q 1 bs ++ Row kinds.EndReport tt ∷ [])
 
 -- the text of a report on queries of a problem
-unfoldable pub report_text : Problem → List QueryReport → Bytes
-report_text q bs = lines_text q.vars (report_lines q bs)
+unfoldable pub report_text : ℕ → Problem → List QueryReport → Bytes
+report_text version q bs = lines_text q.vars (report_lines version q bs)
 
 -- ---- what lines say
 

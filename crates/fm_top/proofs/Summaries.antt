@@ -3,7 +3,7 @@ use Rattle.std.proofs.Common.{◌≡◌, ◌∙◌, ℕ, true, List, [], ◌∷�
 use Rattle.fm_words.specs.Parts.{Bytes}
 use Rattle.fm_report.proofs.Silent.{message_holds}
 use Rattle.fm_decide.proofs.FaultLines.{is_one_line, one_line_append, decimal_one_line}
-use Rattle.fm_answers.specs.Answers.{query_reports}
+use Rattle.fm_certificates.specs.Reports.{certified_reports}
 use Rattle.fm_decide.specs.Counts.{counts_of}
 use Rattle.fm_decide.specs.declared.counts.Counts.{Counts}
 use Rattle.fm_problem.specs.declared.problem.Problem.{Problem}
@@ -49,10 +49,10 @@ module _ (number queries : ℕ) (c : Counts) where
   summary_holds front back e = message_holds line one_line refl front back (whole ∙ e)
 
 -- the summary by its parts
-module _ (number : ℕ) (q : Problem) (c : Counts) (drawn : q ≡ sample_problem number) (counted : c ≡ counts_of (query_reports default_budget q q.queries)) where
+module _ (number : ℕ) (q : Problem) (c : Counts) (drawn : q ≡ sample_problem number) (counted : c ≡ counts_of (certified_reports default_budget q q.queries)) where
   pub sampled_by : summed number q c ≡ sampled number
   unfolding sampled
-  sampled_by = ap (summed number q) counted ∙ ap (λ (p : Problem). summed number p (counts_of (query_reports default_budget p p.queries))) drawn
+  sampled_by = ap (summed number q) counted ∙ ap (λ (p : Problem). summed number p (counts_of (certified_reports default_budget p p.queries))) drawn
 
   pub states_nothing : (bytes : Bytes) → bytes ≡ summary_line number (length q.queries) c → HoldThroughout bytes
   states_nothing bytes are = subst HoldThroughout (sym are) (summary_holds number (length q.queries) c)

@@ -9,7 +9,8 @@ use Rattle.fm_problem.specs.Problems.{problem_of}
 use Rattle.fm_report.specs.Holding.{VerdictsHold}
 use Rattle.fm_parts.specs.Replays.{Reason, Truncated, Form, Exponents, Reference, Shape, Depth, Value, BadEntry, BadLog, Reduction}
 use Rattle.fm_judge.specs.Judging.{Counts as JudgedCounts, BadLine, judgement}
-use Rattle.fm_answers.specs.Answers.{are_answered, query_reports, report_bytes}
+use Rattle.fm_answers.specs.Answers.{are_answered}
+use Rattle.fm_certificates.specs.Reports.{certified_bytes, certified_reports}
 use Rattle.fm_top.specs.declared.call.Call.{Call}
 use Rattle.fm_top.specs.declared.call.Call.TheVariants.{Decide, Check, Sample}
 use Rattle.fm_decide.specs.Counts.{counts_of}
@@ -40,9 +41,9 @@ usage = record { status = Usage; bytes = line_of (codes "usage: fmod decide [--b
 abbrev pub faulted : Fault → Output
 faulted f = record { status = Problem; bytes = codes "line " ++ (decimal f.line ++ (codes ": " ++ line_of (fault_text f.kind))) }
 
--- the report of a problem; the status tells whether each query is answered
+-- the report of a problem, with certificates; the status tells whether each query is answered
 abbrev pub reported : ℕ → problems.Problem → Output
-reported units q = record { status = if are_answered (query_reports units q q.queries) then Done else Unanswered; bytes = report_bytes units q }
+reported units q = record { status = if are_answered (certified_reports units q q.queries) then Done else Unanswered; bytes = certified_bytes units q }
 
 abbrev pub judged : ℕ → Result problems.Problem Fault → Output
 judged units (Ok q) = reported units q
@@ -93,7 +94,7 @@ summed number q c =
 
 -- the summary of the problem that is drawn from a number, each query of it with the default number of units
 unfoldable pub sampled : ℕ → Output
-sampled number = let q = sample_problem number in summed number q (counts_of (query_reports default_budget q q.queries))
+sampled number = let q = sample_problem number in summed number q (counts_of (certified_reports default_budget q q.queries))
 
 -- the longest text that a call lets be read, in bytes
 abbrev pub limit_of : Option Call → ℕ

@@ -1,4 +1,4 @@
-// Certificates: a valid report on the normal crossing, one of its lines naming a part that isn't there, and a report that `decide` writes. What is expected
+// Certificates: a valid report on the normal crossing, one of its lines naming a part that isn't there, and a report of version 0. What is expected
 // is what an independent program finds.
 use crate::tests::{Row, outcome};
 use fm_base::Status;

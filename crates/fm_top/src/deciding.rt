@@ -1,5 +1,6 @@
 // The answers to a problem.
 ghost use Rattle.std.specs.Prelude.{◌≡◌, ◌≤◌, length, IfOk};
+ghost use Rattle.fm_certificates.specs.Reports.{AreSmallReports, certified_reports};
 ghost use Rattle.fm_problem.specs.Sound.{IsProblem};
 ghost use Rattle.fm_top.specs.Output.{HoldThroughout, decided, faulted, problem_limit, reported};
 ghost use Rattle.fm_top.specs.Statuses.{IsOfText, IsWritten};
@@ -34,6 +35,7 @@ fn report(alloc: Global, problem: &Problem, units: u32) -> Result<Reply, AllocEr
     ensures of_text { IfOk result (λ r. IsOfText r.status) }
     ensures status { IfOk result (λ r. r.status ≡ (reported units problem.now).status) }
     ensures bytes { IfOk result (λ r. r.bytes.items ≡ (reported units problem.now).bytes) }
+    ensures small { IfOk result (λ r. AreSmallReports (certified_reports units problem.now problem.now.queries)) }
 {
     let answers = answer(alloc, problem, units)?;
     Ok(Reply {

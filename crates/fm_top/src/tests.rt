@@ -21,7 +21,7 @@ const ROWS: [Row; 46] = [
         failing_reads: &[],
         failing_writes: &[],
         status: Status::Done,
-        written: b"report 0\nring 2 x y\norder grevlex\nideal I = x, y\nquery 1 member I x\nanswer yes\npart 1 given 1 2 (x) (y)\nd 1 1\ndone 1\nend report\n",
+        written: b"report 2\nring 2 x y\norder grevlex\nideal I = x, y\nquery 1 member I x\nanswer yes\npart 1 given 1 2 (x) (y)\nd 1 1\npart 2 given 2 1 (1,0)\ncofactors 2\ndone 1\nend report\n",
     },
     Row {
         words: &["decide", "--budget", "4"],
@@ -29,7 +29,7 @@ const ROWS: [Row; 46] = [
         failing_reads: &[],
         failing_writes: &[],
         status: Status::Unanswered,
-        written: b"report 0\nring 2 x y\norder grevlex\nideal I = x, y\nquery 1 member I x\nunanswered budget member\ndone 1\nend report\n",
+        written: b"report 2\nring 2 x y\norder grevlex\nideal I = x, y\nquery 1 member I x\nunanswered budget member\ndone 1\nend report\n",
     },
     Row {
         words: &["decide", "--budget", "3"],
@@ -37,7 +37,7 @@ const ROWS: [Row; 46] = [
         failing_reads: &[],
         failing_writes: &[],
         status: Status::Unanswered,
-        written: b"report 0\nring 2 x y\norder grevlex\nideal I = x, y\nquery 1 member I x\nunanswered budget member\ndone 1\nend report\n",
+        written: b"report 2\nring 2 x y\norder grevlex\nideal I = x, y\nquery 1 member I x\nunanswered budget member\ndone 1\nend report\n",
     },
     Row {
         words: &["decide"],
@@ -45,7 +45,7 @@ const ROWS: [Row; 46] = [
         failing_reads: &[],
         failing_writes: &[],
         status: Status::Done,
-        written: b"report 0\nring 31 x y\norder lex\nideal I = x*y, y^2\nideal J = 0\nquery 1 member I 30*x\nanswer no\npart 1 given 1 2 (x*y) (y^2)\nd 1 1\ndone 1\nquery 2 member I 30*x^2*y+3*y^2\nanswer yes\npart 1 given 1 2 (x*y) (y^2)\nd 1 1\ndone 2\nquery 3 member J 0\nanswer yes\npart 1 given 1 0\nd 1 1\ndone 3\nquery 4 member J x\nanswer no\npart 1 given 1 0\nd 1 1\ndone 4\nend report\n",
+        written: b"report 2\nring 31 x y\norder lex\nideal I = x*y, y^2\nideal J = 0\nquery 1 member I 30*x\nanswer no\npart 1 given 1 2 (x*y) (y^2)\nd 1 1\nlog 1 1\ninput 1 keep\ninput 2 keep\npair 1 2 keep\nend\nforeign 1\ndone 1\nquery 2 member I 30*x^2*y+3*y^2\nanswer yes\npart 1 given 1 2 (x*y) (y^2)\nd 1 1\npart 2 given 2 1 (30*x,3)\ncofactors 2\ndone 2\nquery 3 member J 0\nanswer yes\npart 1 given 1 0\nd 1 1\npart 2 given 0 1 ()\ncofactors 2\ndone 3\nquery 4 member J x\nanswer no\npart 1 given 1 0\nd 1 1\nlog 1 1\nend\nforeign 1\ndone 4\nend report\n",
     },
     Row {
         words: &["decide"],
@@ -53,7 +53,7 @@ const ROWS: [Row; 46] = [
         failing_reads: &[],
         failing_writes: &[],
         status: Status::Done,
-        written: b"report 0\nring 3 x y\norder grevlex\nideal I = x*y\nquery 1 class 1 I 0 (x^2*y)\nanswer yes stage 0\ndatum I 1\npart 1 given 1 1 (x*y)\nd 1 1\npart 2 given 1 0\nd 2 2\npart 3 given 1 1 (1)\ntheta 0 3\npart 4 given 1 1 (x^2*y^2)\ntheta 1 4\nZ 3\nN 1\nU 4\nK 1 1\ndone 1\nend report\n",
+        written: b"report 2\nring 3 x y\norder grevlex\nideal I = x*y\nquery 1 class 1 I 0 (x^2*y)\nanswer yes stage 0\ndatum I 1\npart 1 given 1 1 (x*y)\nd 1 1\npart 2 given 1 0\nd 2 2\nlog 1 1\ninput 1 keep\nend\npart 3 given 0 0\nexact 1 1 3 3\npart 4 given 1 1 (1)\ntheta 0 4\npart 5 given 1 1 (x^2*y^2)\ntheta 1 5\npart 6 flip 2\nlog 2 6\ninput 1 keep\nend\npart 7 given 0 1 ()\ncocycles 4 2 7 4\npart 8 flip 1\npart 9 beside 4 8\nlog 3 9\ninput 1 keep\ninput 2 by 1 keep\nend\npart 10 given 1 1 (2)\nrelations 1 3 10 4\nmorphism 5\npart 11 twist 1 1\npart 12 beside 5 11\nlog 4 12\ninput 1 keep\ninput 2 by 1 keep\nend\nchain 1 1 4 10 4\nstable 0 4\npart 13 given 1 1 (x^2*y)\ncoordinates 13\npart 14 given 1 1 (x)\ndies 0 14\ndone 1\nend report\n",
     },
     Row {
         words: &["decide"],
@@ -61,7 +61,7 @@ const ROWS: [Row; 46] = [
         failing_reads: &[],
         failing_writes: &[],
         status: Status::Done,
-        written: b"report 0\nring 3 x y\norder grevlex\nideal I = x*y\nquery 1 class 1 I 0 (x)\nanswer no\ndatum I 1\npart 1 given 1 1 (x*y)\nd 1 1\npart 2 given 1 0\nd 2 2\npart 3 given 1 1 (1)\ntheta 0 3\npart 4 given 1 1 (x^2*y^2)\ntheta 1 4\nZ 3\nN 1\nU 4\nK 1 1\ndone 1\nend report\n",
+        written: b"report 2\nring 3 x y\norder grevlex\nideal I = x*y\nquery 1 class 1 I 0 (x)\nanswer no\ndatum I 1\npart 1 given 1 1 (x*y)\nd 1 1\npart 2 given 1 0\nd 2 2\nlog 1 1\ninput 1 keep\nend\npart 3 given 0 0\nexact 1 1 3 3\npart 4 given 1 1 (1)\ntheta 0 4\npart 5 given 1 1 (x^2*y^2)\ntheta 1 5\npart 6 flip 2\nlog 2 6\ninput 1 keep\nend\npart 7 given 0 1 ()\ncocycles 4 2 7 4\npart 8 flip 1\npart 9 beside 4 8\nlog 3 9\ninput 1 keep\ninput 2 by 1 keep\nend\npart 10 given 1 1 (2)\nrelations 1 3 10 4\nmorphism 5\npart 11 twist 1 1\npart 12 beside 5 11\nlog 4 12\ninput 1 keep\ninput 2 by 1 keep\nend\nchain 1 1 4 10 4\nstable 0 4\npart 13 given 1 1 (x)\ncoordinates 13\nlives 0 1\ndone 1\nend report\n",
     },
     Row {
         words: &["decide"],
@@ -69,7 +69,7 @@ const ROWS: [Row; 46] = [
         failing_reads: &[],
         failing_writes: &[],
         status: Status::Done,
-        written: b"report 0\nring 2 x\norder grevlex\nideal I = x\nquery 1 class 1 I 1 (x)\nanswer no\ndatum I 1\npart 1 given 1 1 (x)\nd 1 1\npart 2 given 1 0\nd 2 2\npart 3 given 1 1 (1)\ntheta 0 3\ntheta 1 1\nZ 3\nN 1\nU 1\nK 1 1\ndone 1\nquery 2 class 1 I 1 (x^2)\nanswer yes stage 1\ndatum I 1\npart 1 given 1 1 (x)\nd 1 1\npart 2 given 1 0\nd 2 2\npart 3 given 1 1 (1)\ntheta 0 3\ntheta 1 1\nZ 3\nN 1\nU 1\nK 1 1\ndone 2\nend report\n",
+        written: b"report 2\nring 2 x\norder grevlex\nideal I = x\nquery 1 class 1 I 1 (x)\nanswer no\ndatum I 1\npart 1 given 1 1 (x)\nd 1 1\npart 2 given 1 0\nd 2 2\nlog 1 1\ninput 1 keep\nend\npart 3 given 0 0\nexact 1 1 3 3\npart 4 given 1 1 (1)\ntheta 0 4\ntheta 1 1\npart 5 flip 2\nlog 2 5\ninput 1 keep\nend\npart 6 given 0 1 ()\ncocycles 4 2 6 4\npart 7 flip 1\npart 8 beside 4 7\nlog 3 8\ninput 1 keep\ninput 2 by 1 keep\nend\nrelations 1 3 4 4\nmorphism 1\npart 9 twist 1 1\npart 10 beside 1 9\nlog 4 10\ninput 1 keep\ninput 2 by 1 keep\nend\nchain 1 1 4 4 4\nstable 0 4\ncoordinates 1\nlives 0 1\ndone 1\nquery 2 class 1 I 1 (x^2)\nanswer yes stage 1\ndatum I 1\npart 1 given 1 1 (x)\nd 1 1\npart 2 given 1 0\nd 2 2\nlog 1 1\ninput 1 keep\nend\npart 3 given 0 0\nexact 1 1 3 3\npart 4 given 1 1 (1)\ntheta 0 4\ntheta 1 1\npart 5 flip 2\nlog 2 5\ninput 1 keep\nend\npart 6 given 0 1 ()\ncocycles 4 2 6 4\npart 7 flip 1\npart 8 beside 4 7\nlog 3 8\ninput 1 keep\ninput 2 by 1 keep\nend\nrelations 1 3 4 4\nmorphism 1\npart 9 twist 1 1\npart 10 beside 1 9\nlog 4 10\ninput 1 keep\ninput 2 by 1 keep\nend\nchain 1 1 4 4 4\nstable 0 4\npart 11 given 1 1 (x^2)\ncoordinates 11\ndies 0 4\ndone 2\nend report\n",
     },
     Row {
         words: &["decide"],
@@ -77,7 +77,7 @@ const ROWS: [Row; 46] = [
         failing_reads: &[],
         failing_writes: &[],
         status: Status::Unanswered,
-        written: b"report 0\nring 13 x\norder grevlex\nideal I = x\nquery 1 class 1 I 5 (1)\nanswer no\ndatum I 1\npart 1 given 1 1 (x)\nd 1 1\npart 2 given 1 0\nd 2 2\npart 3 given 1 1 (1)\ntheta 0 3\npart 4 given 1 1 (x^12)\ntheta 1 4\nZ 3\nN 1\nU 4\nK 1 1\ndone 1\nquery 2 class 1 I 7 (1)\nunanswered exponents stage 0\ndone 2\nend report\n",
+        written: b"report 2\nring 13 x\norder grevlex\nideal I = x\nquery 1 class 1 I 5 (1)\nanswer no\ndatum I 1\npart 1 given 1 1 (x)\nd 1 1\npart 2 given 1 0\nd 2 2\nlog 1 1\ninput 1 keep\nend\npart 3 given 0 0\nexact 1 1 3 3\npart 4 given 1 1 (1)\ntheta 0 4\npart 5 given 1 1 (x^12)\ntheta 1 5\npart 6 flip 2\nlog 2 6\ninput 1 keep\nend\npart 7 given 0 1 ()\ncocycles 4 2 7 4\npart 8 flip 1\npart 9 beside 4 8\nlog 3 9\ninput 1 keep\ninput 2 by 1 keep\nend\npart 10 given 1 1 (12)\nrelations 1 3 10 4\nmorphism 5\npart 11 twist 1 1\npart 12 beside 5 11\nlog 4 12\ninput 1 keep\ninput 2 by 1 keep\nend\nchain 1 1 4 10 4\nstable 0 4\ncoordinates 4\nlives 0 1\ndone 1\nquery 2 class 1 I 7 (1)\nunanswered exponents stage 0\ndone 2\nend report\n",
     },
     Row {
         words: &["decide", "--budget", "1"],
@@ -85,7 +85,7 @@ const ROWS: [Row; 46] = [
         failing_reads: &[],
         failing_writes: &[],
         status: Status::Unanswered,
-        written: b"report 0\nring 3 x y\norder grevlex\nideal I = x*y\nquery 1 class 1 I 0 (x^2*y)\nunanswered budget lift 1\ndone 1\nend report\n",
+        written: b"report 2\nring 3 x y\norder grevlex\nideal I = x*y\nquery 1 class 1 I 0 (x^2*y)\nunanswered budget lift 1\ndone 1\nend report\n",
     },
     Row {
         words: &["decide", "--budget", "0000002"],
@@ -93,7 +93,7 @@ const ROWS: [Row; 46] = [
         failing_reads: &[],
         failing_writes: &[],
         status: Status::Unanswered,
-        written: b"report 0\nring 3 x y\norder grevlex\nideal I = x*y\nquery 1 class 1 I 0 (x^2*y)\nunanswered budget lift 1\ndone 1\nend report\n",
+        written: b"report 2\nring 3 x y\norder grevlex\nideal I = x*y\nquery 1 class 1 I 0 (x^2*y)\nunanswered budget lift 1\ndone 1\nend report\n",
     },
     Row {
         words: &["decide", "--budget", "3"],
@@ -101,7 +101,7 @@ const ROWS: [Row; 46] = [
         failing_reads: &[],
         failing_writes: &[],
         status: Status::Unanswered,
-        written: b"report 0\nring 3 x y\norder grevlex\nideal I = x*y\nquery 1 class 1 I 0 (x^2*y)\nunanswered budget cocycles\ndone 1\nend report\n",
+        written: b"report 2\nring 3 x y\norder grevlex\nideal I = x*y\nquery 1 class 1 I 0 (x^2*y)\nunanswered budget cocycles\ndone 1\nend report\n",
     },
     Row {
         words: &["decide", "--budget", "4000000"],
@@ -109,7 +109,7 @@ const ROWS: [Row; 46] = [
         failing_reads: &[],
         failing_writes: &[],
         status: Status::Done,
-        written: b"report 0\nring 2 x\norder lex\nideal Z = 0\nideal I = x\nquery 1 class 1 I 3 (x^8)\nanswer yes stage 3\ndatum I 1\npart 1 given 1 1 (x)\nd 1 1\npart 2 given 1 0\nd 2 2\npart 3 given 1 1 (1)\ntheta 0 3\ntheta 1 1\nZ 3\nN 1\nU 1\nK 1 1\ndone 1\nquery 2 class 1 I 0 (0)\nanswer yes stage 0\ndatum I 1\npart 1 given 1 1 (x)\nd 1 1\npart 2 given 1 0\nd 2 2\npart 3 given 1 1 (1)\ntheta 0 3\ntheta 1 1\nZ 3\nN 1\nU 1\nK 1 1\ndone 2\nend report\n",
+        written: b"report 2\nring 2 x\norder lex\nideal Z = 0\nideal I = x\nquery 1 class 1 I 3 (x^8)\nanswer yes stage 3\ndatum I 1\npart 1 given 1 1 (x)\nd 1 1\npart 2 given 1 0\nd 2 2\nlog 1 1\ninput 1 keep\nend\npart 3 given 0 0\nexact 1 1 3 3\npart 4 given 1 1 (1)\ntheta 0 4\ntheta 1 1\npart 5 flip 2\nlog 2 5\ninput 1 keep\nend\npart 6 given 0 1 ()\ncocycles 4 2 6 4\npart 7 flip 1\npart 8 beside 4 7\nlog 3 8\ninput 1 keep\ninput 2 by 1 keep\nend\nrelations 1 3 4 4\nmorphism 1\npart 9 twist 1 1\npart 10 beside 1 9\nlog 4 10\ninput 1 keep\ninput 2 by 1 keep\nend\nchain 1 1 4 4 4\nstable 0 4\npart 11 given 1 1 (x^8)\ncoordinates 11\ndies 0 4\ndone 1\nquery 2 class 1 I 0 (0)\nanswer yes stage 0\ndatum I 1\npart 1 given 1 1 (x)\nd 1 1\npart 2 given 1 0\nd 2 2\nlog 1 1\ninput 1 keep\nend\npart 3 given 0 0\nexact 1 1 3 3\npart 4 given 1 1 (1)\ntheta 0 4\ntheta 1 1\npart 5 flip 2\nlog 2 5\ninput 1 keep\nend\npart 6 given 0 1 ()\ncocycles 4 2 6 4\npart 7 flip 1\npart 8 beside 4 7\nlog 3 8\ninput 1 keep\ninput 2 by 1 keep\nend\nrelations 1 3 4 4\nmorphism 1\npart 9 twist 1 1\npart 10 beside 1 9\nlog 4 10\ninput 1 keep\ninput 2 by 1 keep\nend\nchain 1 1 4 4 4\nstable 0 4\npart 11 given 1 1 (0)\ncoordinates 11\ndies 0 11\ndone 2\nend report\n",
     },
     Row {
         words: &["decide"],
@@ -125,7 +125,7 @@ const ROWS: [Row; 46] = [
         failing_reads: &[],
         failing_writes: &[],
         status: Status::Done,
-        written: b"report 0\nring 31 x\norder grevlex\nideal I = x\nquery 1 class 1 I 0 (x)\nanswer yes stage 0\ndatum I 1\npart 1 given 1 1 (x)\nd 1 1\npart 2 given 1 0\nd 2 2\npart 3 given 1 1 (1)\ntheta 0 3\npart 4 given 1 1 (x^30)\ntheta 1 4\nZ 3\nN 1\nU 4\nK 1 1\ndone 1\nend report\n",
+        written: b"report 2\nring 31 x\norder grevlex\nideal I = x\nquery 1 class 1 I 0 (x)\nanswer yes stage 0\ndatum I 1\npart 1 given 1 1 (x)\nd 1 1\npart 2 given 1 0\nd 2 2\nlog 1 1\ninput 1 keep\nend\npart 3 given 0 0\nexact 1 1 3 3\npart 4 given 1 1 (1)\ntheta 0 4\npart 5 given 1 1 (x^30)\ntheta 1 5\npart 6 flip 2\nlog 2 6\ninput 1 keep\nend\npart 7 given 0 1 ()\ncocycles 4 2 7 4\npart 8 flip 1\npart 9 beside 4 8\nlog 3 9\ninput 1 keep\ninput 2 by 1 keep\nend\npart 10 given 1 1 (30)\nrelations 1 3 10 4\nmorphism 5\npart 11 twist 1 1\npart 12 beside 5 11\nlog 4 12\ninput 1 keep\ninput 2 by 1 keep\nend\nchain 1 1 4 10 4\nstable 0 4\ncoordinates 1\ndies 0 4\ndone 1\nend report\n",
     },
     Row {
         words: &["decide"],
@@ -157,7 +157,7 @@ const ROWS: [Row; 46] = [
         failing_reads: &[],
         failing_writes: &[],
         status: Status::Done,
-        written: b"report 0\nring 2 x y\norder grevlex\nideal I = x^2, x*y\nquery 1 resolution 1 I\nanswer ranks 1 2 1\ndatum I 1\npart 1 given 1 2 (x^2) (x*y)\nd 1 1\npart 2 given 2 1 (y,x)\nd 2 2\ndone 1\nquery 2 ext 1 I\nanswer generators 1 relations 1\ndatum I 1\npart 1 given 1 2 (x^2) (x*y)\nd 1 1\npart 2 given 2 1 (y,x)\nd 2 2\npart 3 given 1 1 (1)\ntheta 0 3\npart 4 given 2 2 (x^2,0) (0,x*y)\ntheta 1 4\npart 5 given 2 1 (x,y)\nZ 5\npart 6 given 1 1 (x)\nN 6\nU 6\ndone 2\nquery 3 ext 2 I\nanswer generators 1 relations 2\ndatum I 2\npart 1 given 1 2 (x^2) (x*y)\nd 1 1\npart 2 given 2 1 (y,x)\nd 2 2\npart 3 given 1 0\nd 3 3\npart 4 given 1 1 (1)\ntheta 0 4\npart 5 given 2 2 (x^2,0) (0,x*y)\ntheta 1 5\npart 6 given 1 1 (x^2*y)\ntheta 2 6\nZ 4\npart 7 given 1 2 (y) (x)\nN 7\nU 6\ndone 3\nend report\n",
+        written: b"report 2\nring 2 x y\norder grevlex\nideal I = x^2, x*y\nquery 1 resolution 1 I\nanswer ranks 1 2 1\ndatum I 1\npart 1 given 1 2 (x^2) (x*y)\nd 1 1\npart 2 given 2 1 (y,x)\nd 2 2\nlog 1 1\ninput 1 keep\ninput 2 keep\npair 1 2 keep\nend\npart 3 given 0 1 ()\npart 4 given 1 1 (1)\nexact 1 1 3 4\ndone 1\nquery 2 ext 1 I\nanswer generators 1 relations 1\ndatum I 1\npart 1 given 1 2 (x^2) (x*y)\nd 1 1\npart 2 given 2 1 (y,x)\nd 2 2\nlog 1 1\ninput 1 keep\ninput 2 keep\npair 1 2 keep\nend\npart 3 given 0 1 ()\npart 4 given 1 1 (1)\nexact 1 1 3 4\ntheta 0 4\npart 5 given 2 2 (x^2,0) (0,x*y)\ntheta 1 5\npart 6 given 2 1 (x,y)\npart 7 flip 2\nlog 2 7\ninput 1 keep\ninput 2 keep\npair 1 2 keep\nend\ncocycles 6 2 3 4\npart 8 given 1 1 (x)\npart 9 flip 1\npart 10 beside 6 9\nlog 3 10\ninput 1 keep\ninput 2 by 1 keep\nend\nrelations 8 3 4 4\nmorphism 8\ndone 2\nquery 3 ext 2 I\nanswer generators 1 relations 2\ndatum I 2\npart 1 given 1 2 (x^2) (x*y)\nd 1 1\npart 2 given 2 1 (y,x)\nd 2 2\npart 3 given 1 0\nd 3 3\nlog 1 1\ninput 1 keep\ninput 2 keep\npair 1 2 keep\nend\npart 4 given 0 1 ()\npart 5 given 1 1 (1)\nexact 1 1 4 5\nlog 2 2\ninput 1 keep\nend\npart 6 given 0 0\nexact 2 2 6 6\ntheta 0 5\npart 7 given 2 2 (x^2,0) (0,x*y)\ntheta 1 7\npart 8 given 1 1 (x^2*y)\ntheta 2 8\npart 9 flip 3\nlog 3 9\ninput 1 keep\nend\ncocycles 5 3 4 5\npart 10 given 1 2 (y) (x)\npart 11 flip 2\npart 12 beside 5 11\nlog 4 12\ninput 1 keep\ninput 2 by 1 keep\ninput 3 by 1 keep\npair 2 3 keep\nend\npart 13 given 2 2 (1,0) (0,1)\npart 14 given 2 3 (1,0) (0,1) (0,0)\nrelations 10 4 13 14\nmorphism 8\ndone 3\nend report\n",
     },
     Row {
         words: &["decide"],
@@ -165,7 +165,7 @@ const ROWS: [Row; 46] = [
         failing_reads: &[],
         failing_writes: &[],
         status: Status::Done,
-        written: b"report 0\nring 3 x y z\norder grevlex\nideal Z = 0\nideal W = 1\nideal A = x, y, z\nquery 1 ext 0 Z\nanswer generators 1 relations 0\ndatum Z 0\npart 1 given 1 0\nd 1 1\npart 2 given 1 1 (1)\ntheta 0 2\nZ 2\nN 1\nU 2\ndone 1\nquery 2 resolution 2 Z\nanswer ranks 1 0 0 0\ndatum Z 2\npart 1 given 1 0\nd 1 1\npart 2 given 0 0\nd 2 2\nd 3 2\ndone 2\nquery 3 ext 1 W\nanswer generators 1 relations 1\ndatum W 1\npart 1 given 1 1 (1)\nd 1 1\npart 2 given 1 0\nd 2 2\ntheta 0 1\ntheta 1 1\nZ 1\nN 1\nU 1\ndone 3\nquery 4 resolution 3 A\nanswer ranks 1 3 3 1 0\ndatum A 3\npart 1 given 1 3 (x) (y) (z)\nd 1 1\npart 2 given 3 3 (0,z,2*y) (z,0,2*x) (y,2*x,0)\nd 2 2\npart 3 given 3 1 (x,2*y,z)\nd 3 3\npart 4 given 1 0\nd 4 4\ndone 4\nquery 5 ext 3 A\nanswer generators 1 relations 3\ndatum A 3\npart 1 given 1 3 (x) (y) (z)\nd 1 1\npart 2 given 3 3 (0,z,2*y) (z,0,2*x) (y,2*x,0)\nd 2 2\npart 3 given 3 1 (x,2*y,z)\nd 3 3\npart 4 given 1 0\nd 4 4\npart 5 given 1 1 (1)\ntheta 0 5\npart 6 given 3 3 (x^2,0,0) (0,y^2,0) (0,0,z^2)\ntheta 1 6\npart 7 given 3 3 (y^2*z^2,0,0) (0,x^2*z^2,0) (0,0,x^2*y^2)\ntheta 2 7\npart 8 given 1 1 (x^2*y^2*z^2)\ntheta 3 8\nZ 5\nN 1\nU 8\ndone 5\nend report\n",
+        written: b"report 2\nring 3 x y z\norder grevlex\nideal Z = 0\nideal W = 1\nideal A = x, y, z\nquery 1 ext 0 Z\nanswer generators 1 relations 0\ndatum Z 0\npart 1 given 1 0\nd 1 1\npart 2 given 1 1 (1)\ntheta 0 2\npart 3 flip 1\nlog 1 3\ninput 1 keep\nend\npart 4 given 0 1 ()\ncocycles 2 1 4 2\npart 5 beside 2 1\nlog 2 5\ninput 1 keep\nend\npart 6 given 0 0\nrelations 1 2 6 6\nmorphism 2\ndone 1\nquery 2 resolution 2 Z\nanswer ranks 1 0 0 0\ndatum Z 2\npart 1 given 1 0\nd 1 1\npart 2 given 0 0\nd 2 2\nd 3 2\nlog 1 1\nend\nexact 1 1 2 2\nlog 2 2\nend\nexact 2 2 2 2\ndone 2\nquery 3 ext 1 W\nanswer generators 1 relations 1\ndatum W 1\npart 1 given 1 1 (1)\nd 1 1\npart 2 given 1 0\nd 2 2\nlog 1 1\ninput 1 keep\nend\npart 3 given 0 0\nexact 1 1 3 3\ntheta 0 1\ntheta 1 1\npart 4 flip 2\nlog 2 4\ninput 1 keep\nend\npart 5 given 0 1 ()\ncocycles 1 2 5 1\npart 6 flip 1\npart 7 beside 1 6\nlog 3 7\ninput 1 keep\ninput 2 by 1 keep\nend\npart 8 given 1 1 (2)\nrelations 1 3 8 1\nmorphism 1\ndone 3\nquery 4 resolution 3 A\nanswer ranks 1 3 3 1 0\ndatum A 3\npart 1 given 1 3 (x) (y) (z)\nd 1 1\npart 2 given 3 3 (0,z,2*y) (z,0,2*x) (y,2*x,0)\nd 2 2\npart 3 given 3 1 (x,2*y,z)\nd 3 3\npart 4 given 1 0\nd 4 4\nlog 1 1\ninput 1 keep\ninput 2 keep\ninput 3 keep\npair 2 3 keep\npair 1 3 keep\npair 1 2 keep\npair 5 6 by 4 zero\nend\npart 5 given 0 3 () () ()\npart 6 given 3 3 (1,0,0) (0,1,0) (0,0,1)\nexact 1 1 5 6\nlog 2 2\ninput 1 keep\ninput 2 keep\ninput 3 keep\npair 2 3 by 1 keep\nend\npart 7 given 0 1 ()\npart 8 given 1 1 (1)\nexact 2 2 7 8\nlog 3 3\ninput 1 keep\nend\npart 9 given 0 0\nexact 3 3 9 9\ndone 4\nquery 5 ext 3 A\nanswer generators 1 relations 3\ndatum A 3\npart 1 given 1 3 (x) (y) (z)\nd 1 1\npart 2 given 3 3 (0,z,2*y) (z,0,2*x) (y,2*x,0)\nd 2 2\npart 3 given 3 1 (x,2*y,z)\nd 3 3\npart 4 given 1 0\nd 4 4\nlog 1 1\ninput 1 keep\ninput 2 keep\ninput 3 keep\npair 2 3 keep\npair 1 3 keep\npair 1 2 keep\npair 5 6 by 4 zero\nend\npart 5 given 0 3 () () ()\npart 6 given 3 3 (1,0,0) (0,1,0) (0,0,1)\nexact 1 1 5 6\nlog 2 2\ninput 1 keep\ninput 2 keep\ninput 3 keep\npair 2 3 by 1 keep\nend\npart 7 given 0 1 ()\npart 8 given 1 1 (1)\nexact 2 2 7 8\nlog 3 3\ninput 1 keep\nend\npart 9 given 0 0\nexact 3 3 9 9\ntheta 0 8\npart 10 given 3 3 (x^2,0,0) (0,y^2,0) (0,0,z^2)\ntheta 1 10\npart 11 given 3 3 (y^2*z^2,0,0) (0,x^2*z^2,0) (0,0,x^2*y^2)\ntheta 2 11\npart 12 given 1 1 (x^2*y^2*z^2)\ntheta 3 12\npart 13 flip 4\nlog 4 13\ninput 1 keep\nend\ncocycles 8 4 7 8\npart 14 flip 3\npart 15 beside 8 14\nlog 5 15\ninput 1 keep\ninput 2 by 1 keep\ninput 3 by 1 keep\ninput 4 by 1 keep\npair 3 4 keep\npair 2 4 keep\npair 2 3 keep\npair 6 7 by 5 zero\nend\npart 16 given 3 3 (2,0,0) (0,1,0) (0,0,2)\npart 17 given 3 6 (1,0,0) (0,1,0) (0,0,1) (0,0,0) (0,0,0) (0,0,0)\nrelations 1 5 16 17\nmorphism 12\ndone 5\nend report\n",
     },
     Row {
         words: &["decide"],
@@ -173,7 +173,7 @@ const ROWS: [Row; 46] = [
         failing_reads: &[],
         failing_writes: &[],
         status: Status::Done,
-        written: b"report 0\nring 7 t\norder lex\nideal I = t^3\nideal Z = 0\nquery 1 resolution 0 I\nanswer ranks 1 1\ndatum I 0\npart 1 given 1 1 (t^3)\nd 1 1\ndone 1\nquery 2 resolution 1 I\nanswer ranks 1 1 0\ndatum I 1\npart 1 given 1 1 (t^3)\nd 1 1\npart 2 given 1 0\nd 2 2\ndone 2\nquery 3 ext 0 I\nanswer generators 0 relations 0\ndatum I 0\npart 1 given 1 1 (t^3)\nd 1 1\npart 2 given 1 1 (1)\ntheta 0 2\npart 3 given 1 0\nZ 3\npart 4 given 0 0\nN 4\nU 4\ndone 3\nquery 4 ext 1 I\nanswer generators 1 relations 1\ndatum I 1\npart 1 given 1 1 (t^3)\nd 1 1\npart 2 given 1 0\nd 2 2\npart 3 given 1 1 (1)\ntheta 0 3\npart 4 given 1 1 (t^18)\ntheta 1 4\nZ 3\nN 1\nU 4\ndone 4\nquery 5 ext 1 Z\nanswer generators 0 relations 0\ndatum Z 1\npart 1 given 1 0\nd 1 1\npart 2 given 0 0\nd 2 2\npart 3 given 1 1 (1)\ntheta 0 3\ntheta 1 2\nZ 2\nN 2\nU 2\ndone 5\nquery 6 member I t^4\nanswer yes\npart 1 given 1 1 (t^3)\nd 1 1\ndone 6\nend report\n",
+        written: b"report 2\nring 7 t\norder lex\nideal I = t^3\nideal Z = 0\nquery 1 resolution 0 I\nanswer ranks 1 1\ndatum I 0\npart 1 given 1 1 (t^3)\nd 1 1\ndone 1\nquery 2 resolution 1 I\nanswer ranks 1 1 0\ndatum I 1\npart 1 given 1 1 (t^3)\nd 1 1\npart 2 given 1 0\nd 2 2\nlog 1 1\ninput 1 keep\nend\npart 3 given 0 0\nexact 1 1 3 3\ndone 2\nquery 3 ext 0 I\nanswer generators 0 relations 0\ndatum I 0\npart 1 given 1 1 (t^3)\nd 1 1\npart 2 given 1 1 (1)\ntheta 0 2\npart 3 given 1 0\npart 4 flip 1\nlog 1 4\ninput 1 keep\nend\npart 5 given 0 0\ncocycles 3 1 5 5\npart 6 beside 3 3\nlog 2 6\nend\nrelations 5 2 5 5\nmorphism 5\ndone 3\nquery 4 ext 1 I\nanswer generators 1 relations 1\ndatum I 1\npart 1 given 1 1 (t^3)\nd 1 1\npart 2 given 1 0\nd 2 2\nlog 1 1\ninput 1 keep\nend\npart 3 given 0 0\nexact 1 1 3 3\npart 4 given 1 1 (1)\ntheta 0 4\npart 5 given 1 1 (t^18)\ntheta 1 5\npart 6 flip 2\nlog 2 6\ninput 1 keep\nend\npart 7 given 0 1 ()\ncocycles 4 2 7 4\npart 8 flip 1\npart 9 beside 4 8\nlog 3 9\ninput 1 keep\ninput 2 by 1 keep\nend\npart 10 given 1 1 (6)\nrelations 1 3 10 4\nmorphism 5\ndone 4\nquery 5 ext 1 Z\nanswer generators 0 relations 0\ndatum Z 1\npart 1 given 1 0\nd 1 1\npart 2 given 0 0\nd 2 2\nlog 1 1\nend\nexact 1 1 2 2\npart 3 given 1 1 (1)\ntheta 0 3\ntheta 1 2\npart 4 flip 2\nlog 2 4\nend\ncocycles 2 2 2 2\npart 5 flip 1\npart 6 beside 2 5\nlog 3 6\ninput 1 keep\nend\npart 7 given 0 1 ()\nrelations 2 3 1 7\nmorphism 2\ndone 5\nquery 6 member I t^4\nanswer yes\npart 1 given 1 1 (t^3)\nd 1 1\npart 2 given 1 1 (t)\ncofactors 2\ndone 6\nend report\n",
     },
     Row {
         words: &["decide", "--budget", "12"],
@@ -181,7 +181,7 @@ const ROWS: [Row; 46] = [
         failing_reads: &[],
         failing_writes: &[],
         status: Status::Unanswered,
-        written: b"report 0\nring 2 x y\norder grevlex\nideal I = x^2, x*y\nquery 1 resolution 1 I\nanswer ranks 1 2 1\ndatum I 1\npart 1 given 1 2 (x^2) (x*y)\nd 1 1\npart 2 given 2 1 (y,x)\nd 2 2\ndone 1\nquery 2 ext 1 I\nunanswered budget cocycles\ndone 2\nend report\n",
+        written: b"report 2\nring 2 x y\norder grevlex\nideal I = x^2, x*y\nquery 1 resolution 1 I\nanswer ranks 1 2 1\ndatum I 1\npart 1 given 1 2 (x^2) (x*y)\nd 1 1\npart 2 given 2 1 (y,x)\nd 2 2\nlog 1 1\ninput 1 keep\ninput 2 keep\npair 1 2 keep\nend\npart 3 given 0 1 ()\npart 4 given 1 1 (1)\nexact 1 1 3 4\ndone 1\nquery 2 ext 1 I\nunanswered budget cocycles\ndone 2\nend report\n",
     },
     Row {
         words: &["decide", "--budget", "3"],
@@ -189,7 +189,7 @@ const ROWS: [Row; 46] = [
         failing_reads: &[],
         failing_writes: &[],
         status: Status::Unanswered,
-        written: b"report 0\nring 5 x y\norder deglex\nideal I = x+y, x*y\nquery 1 resolution 2 I\nunanswered budget resolve 1\ndone 1\nquery 2 ext 0 I\nunanswered budget resolve 1\ndone 2\nquery 3 member I x^2\nunanswered budget resolve 1\ndone 3\nend report\n",
+        written: b"report 2\nring 5 x y\norder deglex\nideal I = x+y, x*y\nquery 1 resolution 2 I\nunanswered budget resolve 1\ndone 1\nquery 2 ext 0 I\nunanswered budget resolve 1\ndone 2\nquery 3 member I x^2\nunanswered budget resolve 1\ndone 3\nend report\n",
     },
     Row {
         words: &["decide", "--budget", "24"],
@@ -197,7 +197,7 @@ const ROWS: [Row; 46] = [
         failing_reads: &[],
         failing_writes: &[],
         status: Status::Unanswered,
-        written: b"report 0\nring 2 x y\norder grevlex\nideal I = x^2, x*y\nquery 1 ext 1 I\nunanswered budget relations\ndone 1\nend report\n",
+        written: b"report 2\nring 2 x y\norder grevlex\nideal I = x^2, x*y\nquery 1 ext 1 I\nunanswered budget relations\ndone 1\nend report\n",
     },
     Row {
         words: &["decide", "--budget", "27"],
@@ -205,7 +205,7 @@ const ROWS: [Row; 46] = [
         failing_reads: &[],
         failing_writes: &[],
         status: Status::Unanswered,
-        written: b"report 0\nring 2 x y\norder grevlex\nideal I = x^2, x*y\nquery 1 ext 1 I\nunanswered budget morphism\ndone 1\nend report\n",
+        written: b"report 2\nring 2 x y\norder grevlex\nideal I = x^2, x*y\nquery 1 ext 1 I\nunanswered budget morphism\ndone 1\nend report\n",
     },
     Row {
         words: &["decide", "--budget", "28"],
@@ -213,7 +213,7 @@ const ROWS: [Row; 46] = [
         failing_reads: &[],
         failing_writes: &[],
         status: Status::Done,
-        written: b"report 0\nring 2 x y\norder grevlex\nideal I = x^2, x*y\nquery 1 ext 1 I\nanswer generators 1 relations 1\ndatum I 1\npart 1 given 1 2 (x^2) (x*y)\nd 1 1\npart 2 given 2 1 (y,x)\nd 2 2\npart 3 given 1 1 (1)\ntheta 0 3\npart 4 given 2 2 (x^2,0) (0,x*y)\ntheta 1 4\npart 5 given 2 1 (x,y)\nZ 5\npart 6 given 1 1 (x)\nN 6\nU 6\ndone 1\nend report\n",
+        written: b"report 2\nring 2 x y\norder grevlex\nideal I = x^2, x*y\nquery 1 ext 1 I\nanswer generators 1 relations 1\ndatum I 1\npart 1 given 1 2 (x^2) (x*y)\nd 1 1\npart 2 given 2 1 (y,x)\nd 2 2\nlog 1 1\ninput 1 keep\ninput 2 keep\npair 1 2 keep\nend\npart 3 given 0 1 ()\npart 4 given 1 1 (1)\nexact 1 1 3 4\ntheta 0 4\npart 5 given 2 2 (x^2,0) (0,x*y)\ntheta 1 5\npart 6 given 2 1 (x,y)\npart 7 flip 2\nlog 2 7\ninput 1 keep\ninput 2 keep\npair 1 2 keep\nend\ncocycles 6 2 3 4\npart 8 given 1 1 (x)\npart 9 flip 1\npart 10 beside 6 9\nlog 3 10\ninput 1 keep\ninput 2 by 1 keep\nend\nrelations 8 3 4 4\nmorphism 8\ndone 1\nend report\n",
     },
     Row {
         words: &["decide"],
@@ -269,7 +269,7 @@ const ROWS: [Row; 46] = [
         failing_reads: &[],
         failing_writes: &[],
         status: Status::Done,
-        written: b"report 0\nring 2 x\norder grevlex\nend report\n",
+        written: b"report 2\nring 2 x\norder grevlex\nend report\n",
     },
     Row {
         words: &["decide"],
@@ -285,7 +285,7 @@ const ROWS: [Row; 46] = [
         failing_reads: &[],
         failing_writes: &[2],
         status: Status::WriteFault,
-        written: b"report 0\nring 3 ",
+        written: b"report 2\nring 3 ",
     },
     Row {
         words: &["decide", "--budget", "0"],
@@ -401,7 +401,7 @@ pub(crate) fn outcome(alloc: Global, row: &Row) -> Result<(Status, MemorySink), 
         1000,
         row.failing_reads.to_vec(alloc)?,
     );
-    let mut sink = MemorySink::new(alloc, 4000, 16, row.failing_writes.to_vec(alloc)?)?;
+    let mut sink = MemorySink::new(alloc, 16_000, 16, row.failing_writes.to_vec(alloc)?)?;
     let status = run(alloc, &words, &mut source, &mut sink);
     Ok((status, sink))
 }

@@ -1,5 +1,5 @@
 // The laws of reports.
-ghost use Rattle.std.specs.Prelude.{List, Option, [], false, length, nat_eq, not, true, ◌++◌, ◌∷◌, ◌≡◌, ◌≤◌};
+ghost use Rattle.std.specs.Prelude.{List, Option, [], false, length, nat_eq, not, true, ℕ, ◌++◌, ◌<◌, ◌^◌, ◌∷◌, ◌≡◌, ◌≤◌};
 ghost use Rattle.std.specs.List.{list_all};
 ghost use Rattle.fm_words.specs.Parts.{Bytes};
 ghost use Rattle.fm_words.specs.Words.{words};
@@ -13,13 +13,13 @@ ghost use Rattle.fm_report.specs.Reports.{IsWritable, QueryReport, report_says, 
 
 /// A written report states what its queries say, in order, and nothing else.
 pub fn a_written_report_states_what_it_says()
-    ensures { (q : Problem) (bs : List QueryReport) → IsWritable q bs → statements (report_text q bs) ≡ report_says q 0 bs }
+    ensures { (version : ℕ) (q : Problem) (bs : List QueryReport) → version < 2 ^ 64 → IsWritable q bs → statements (report_text version q bs) ≡ report_says q 0 bs }
 {}
 
 /// If what the queries of a written report say holds, then all that the report states holds, and so does all that each beginning of it states.
 pub fn reports_of_queries_that_hold_hold()
-    ensures { (q : Problem) (bs : List QueryReport) → IsWritable q bs → AllHold (report_says q 0 bs) → (front back : Bytes) → report_text q bs ≡ front ++ back
-        → VerdictsHold front }
+    ensures { (version : ℕ) (q : Problem) (bs : List QueryReport) → version < 2 ^ 64 → IsWritable q bs → AllHold (report_says q 0 bs)
+        → (front back : Bytes) → report_text version q bs ≡ front ++ back → VerdictsHold front }
 {}
 
 /// What a beginning of the bytes states is a beginning of what they state: a report that is cut states nothing that the whole report does not.

@@ -7,6 +7,7 @@ use Rattle.fm_queries.specs.Founds.{FollowsQuery, class_value, ended_by}
 use Rattle.fm_queries.specs.declared.class.Class.{Class}
 use Rattle.fm_answers.specs.Answers.{ideal_at}
 use Rattle.fm_decide.proofs.BaseReports.{class_answered, stage_fits}
+use Rattle.fm_decide.proofs.Degrees.{class_long}
 use Rattle.fm_decide.proofs.EndedReports.{whole_stopped}
 use Rattle.fm_decide.proofs.SoundIdeals.{are_over}
 use Rattle.fm_decide.proofs.class.answer_class.Goals as goal
@@ -23,13 +24,18 @@ first_stage-requires c =
     stage_fits q c.args.i c.args.ideal c.args.units _ c.args.e c.args.z.now c.in-Ok.found (ring_of c.in-Ok.found.base.ext) c.in-Ok.ensures.ring c.ranges.units.fits c.ranges.i.fits c.ranges.e.fits
     (subst (λ gs. length gs + 1 < 2 ^ 32) c.generators-generators.ensures.same c.generators-generators.ensures.few) follows
 
-pub returns-in_ok-lines-in-Ok-clause-value : goal.returns-in_ok-lines-in-Ok-clause-value
-returns-in_ok-lines-in-Ok-clause-value c =
+pub certify_class-requires-clause-degree : goal.certify_class-requires-clause-degree
+certify_class-requires-clause-degree c =
+    let r = c.args.problem.now.ring in
+    class_long r c.args.i (column_meaning r c.generators-generators.result.now) c.new-work.result c.decide_class.new.work c.args.e (column_meaning r c.args.z.now) c.in-Ok.found c.in-Ok.ensures.follows
+
+pub returns-in_ok-certificate-in-Ok-clause-value : goal.returns-in_ok-certificate-in-Ok-clause-value
+returns-in_ok-certificate-in-Ok-clause-value c =
     let q = c.args.problem.now in
     let fs = column_meaning q.ring c.args.z.now in
     let follows = subst₂ (λ gs u. FollowsQuery {X = Class} (class_value q.ring c.args.i (column_meaning q.ring gs) c.args.e fs) (Ok c.in-Ok.found) u c.decide_class.new.work (plan q.ring (ask_class c.args.i (column_meaning q.ring gs) c.args.e fs) u))
     c.generators-generators.ensures.same c.new-work.ensures c.in-Ok.ensures.follows in
-    class_answered q c.args.i c.args.ideal c.args.units _ c.args.e c.args.z.now c.in-Ok.found (ring_of c.in-Ok.found.base.ext) c.in-Ok.ensures.ring _ _ c.first_stage.ensures c.in_ok-lines-in-Ok.ensures.value follows
+    class_answered q c.args.i c.args.ideal c.args.units _ c.args.e c.args.z.now c.in-Ok.found (ring_of c.in-Ok.found.base.ext) c.in-Ok.ensures.ring _ _ c.first_stage.ensures (c.in_ok-certificate-in-Ok.ensures (ideal_at q c.args.ideal) c.args.e fs c.args.z.now) follows
 
 pub returns-in-Err-clause-value : goal.returns-in-Err-clause-value
 returns-in-Err-clause-value c =

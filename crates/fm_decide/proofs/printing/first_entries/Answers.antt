@@ -1,4 +1,4 @@
-use Rattle.fm_decide.proofs.Copies.{firsts_of}
+use Rattle.fm_decide.proofs.FirstEntries.{firsts_of}
 use Rattle.fm_decide.proofs.printing.first_entries.Goals as goal
 
 pub returns-clause-value : goal.returns-clause-value

@@ -1,4 +1,4 @@
-use Rattle.fm_decide.proofs.Copies.{first_copied, none_is}
+use Rattle.fm_decide.proofs.FirstEntries.{first_copied, none_is}
 use Rattle.fm_decide.proofs.printing.printed_first.Goals as goal
 
 pub returns-in-Some : goal.returns-in-Some

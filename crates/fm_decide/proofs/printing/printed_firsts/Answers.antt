@@ -1,6 +1,6 @@
 use Rattle.std.proofs.Common.{ap, ◌∙◌}
 use Rattle.fm_mat.specs.Matrices.{column_meaning}
-use Rattle.fm_decide.proofs.Copies.{first_printed, firsts_done, next_first}
+use Rattle.fm_decide.proofs.FirstEntries.{first_printed, firsts_done, next_first}
 use Rattle.fm_decide.proofs.printing.printed_firsts.Goals as goal
 
 pub columns-preserved : goal.columns-preserved

@@ -1,6 +1,6 @@
 use Rattle.std.proofs.Common.{length}
 use Rattle.fm_mat.specs.Matrices.{columns_meaning}
-use Rattle.fm_decide.proofs.Copies.{AreFirstsLeft, firsts_printed}
+use Rattle.fm_decide.proofs.FirstEntries.{AreFirstsLeft, firsts_printed}
 use Rattle.fm_decide.proofs.printing.printed_firsts.Given as goal
 
 abbrev pub invariant-columns : goal.invariant-columns

@@ -10,8 +10,14 @@ use Rattle.fm_queries.specs.Founds.{support_value}
 use Rattle.fm_queries.specs.declared.support.Support.{Support}
 use Rattle.fm_answers.specs.Answers.{ideal_at}
 use Rattle.fm_decide.proofs.BaseReports.{support_answered}
+use Rattle.fm_decide.proofs.Degrees.{support_long}
 use Rattle.fm_decide.proofs.EndedReports.{whole_stopped}
 use Rattle.fm_decide.proofs.support.answer_support.Goals as goal
+
+pub certify_support-requires-clause-degree : goal.certify_support-requires-clause-degree
+certify_support-requires-clause-degree c =
+    let r = c.args.problem.now.ring in
+    support_long r c.args.i (column_meaning r c.generators-generators.result.now) c.new-work.result c.compute_support.new.work c.in-Ok.found c.in-Ok.ensures.follows
 
 pub returns-in_ok-first_entries-in-Ok-clause-value : goal.returns-in_ok-first_entries-in-Ok-clause-value
 returns-in_ok-first_entries-in-Ok-clause-value c =
@@ -20,15 +26,12 @@ returns-in_ok-first_entries-in-Ok-clause-value c =
     c.generators-generators.ensures.same c.new-work.ensures c.in-Ok.ensures.follows in
     let row = c.found-row.ensures ∙ ap (λ (x : GeneratorsValue). x.graph.matrix) c.generators.ensures.same in
     support_answered q c.args.i c.args.ideal c.args.units _ c.in-Ok.found c.found-row.result.now _ _ row
-    (c.in_ok-first_entries-in-Ok.ensures.value q.ring (ap (λ (m : MatrixValue). m.ring) row ∙ c.in-Ok.ensures.row)) c.in_ok-lines-in-Ok.ensures.value follows
+    (c.in_ok-first_entries-in-Ok.ensures.value q.ring (ap (λ (m : MatrixValue). m.ring) row ∙ c.in-Ok.ensures.row)) (c.in_ok-certificate-in-Ok.ensures (ideal_at q c.args.ideal)) follows
 
 pub returns-in_ok-first_entries-in-Ok-clause-over : goal.returns-in_ok-first_entries-in-Ok-clause-over
 returns-in_ok-first_entries-in-Ok-clause-over c =
     let row = c.found-row.ensures ∙ ap (λ (x : GeneratorsValue). x.graph.matrix) c.generators.ensures.same in
-    record {
-      end = subst (λ (r : Ring). AreOverVariables r.vars c.in_ok-first_entries-in-Ok.field-0.items) (ap (λ (m : MatrixValue). m.ring) row ∙ c.in-Ok.ensures.row) c.in_ok-first_entries-in-Ok.ensures.over;
-      lines = c.in_ok-lines-in-Ok.ensures.over;
-    }
+    subst (λ (r : Ring). AreOverVariables r.vars c.in_ok-first_entries-in-Ok.field-0.items) (ap (λ (m : MatrixValue). m.ring) row ∙ c.in-Ok.ensures.row) c.in_ok-first_entries-in-Ok.ensures.over
 
 pub returns-in-Err-clause-value : goal.returns-in-Err-clause-value
 returns-in-Err-clause-value c =

@@ -1,0 +1,11 @@
+pub mod Matrices
+pub mod Writable
+pub mod Roots
+pub mod Idle
+pub mod Blocks
+pub mod OneIdeal
+pub mod Support
+pub mod Membership
+pub mod Maps
+pub mod Reports
+pub mod Texts

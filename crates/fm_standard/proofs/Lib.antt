@@ -1,0 +1,12 @@
+pub mod Steps
+pub mod SmallLines
+pub mod Forms
+pub mod NumbersPrinted
+pub mod FormTexts
+pub mod Shelves
+pub mod PartsSaid
+pub mod IdleLines
+pub mod LogsSaid
+pub mod ClaimsSaid
+pub mod LinesPut
+pub mod CertificatesSaid
