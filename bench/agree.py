@@ -1,8 +1,9 @@
 #!/usr/bin/env python3
 """Runs two programs on the same problem texts and compares what they write and how they end: agree.py PROGRAM REFERENCE FOLDER [BUDGET ..].
 
-PROGRAM is called as `PROGRAM decide --budget N` and REFERENCE as `REFERENCE --report w9 decide --budget N`, for each text of the folder and each
-budget (60, 600 and 20,000 where none is given). A text on which one of them takes more than a minute is told and passed over.
+PROGRAM is called as `PROGRAM decide --budget N` and REFERENCE as `REFERENCE --report r16 decide --budget N`, for each text of the folder and each
+budget (60, 600 and 20,000 where none is given). Each report is then given to `PROGRAM check`, and to `REFERENCE --report r16 check` where that does not
+accept it. A text on which one of them takes more than a minute is told and passed over.
 """
 import collections
 import os
@@ -20,6 +21,14 @@ def outcome(words, text):
     except subprocess.TimeoutExpired:
         return None
     return ran.returncode, ran.stdout
+
+
+def checked(program, reference, report):
+    """How a report is checked: accepted, refused alike by both programs, or told differently."""
+    ours = outcome([program, "check"], report)
+    if ours is not None and ours[0] == 0:
+        return "accepted"
+    return "refused alike" if ours == outcome([reference, "--report", "r16", "check"], report) else "CHECKED DIFFERENTLY"
 
 
 def count_ends(report, ends):
@@ -43,7 +52,7 @@ def main():
             text = file.read()
         for budget in budgets:
             ours = outcome([program, "decide", "--budget", budget], text)
-            theirs = outcome([reference, "--report", "w9", "decide", "--budget", budget], text)
+            theirs = outcome([reference, "--report", "r16", "decide", "--budget", budget], text)
             if ours is None or theirs is None:
                 counts["passed over"] += 1
                 print(f"{name} with {budget} units: more than {SECONDS} s", flush=True)
@@ -51,12 +60,14 @@ def main():
                 counts["same"] += 1
                 counts[f"status {ours[0]}"] += 1
                 count_ends(ours[1], ends)
+                if ours[0] in (0, 3):
+                    counts[checked(program, reference, ours[1])] += 1
             else:
                 counts["different"] += 1
                 print(f"{name} with {budget} units: DIFFERENT, status {ours[0]} and {theirs[0]}", flush=True)
     print(", ".join(f"{word} {count}" for word, count in sorted(counts.items())))
     print(", ".join(f"{word} {count}" for word, count in sorted(ends.items())))
-    sys.exit(counts["different"] > 0)
+    sys.exit(counts["different"] + counts["CHECKED DIFFERENTLY"] > 0)
 
 
 if __name__ == "__main__":
